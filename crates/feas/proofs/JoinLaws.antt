@@ -1,13 +1,12 @@
 -- Switches that are joined with one are joined with each other.
-use Rattle.std.proofs.Common.{◌≡◌, ℕ, Bool, true, false, List, [], ◌∷◌, refl, sym, ap, ◌∙◌}
-use Rattle.std.specs.Prelude.{◌&&◌}
+use Rattle.std.proofs.Common.{◌≡◌, Bool, true, List, [], ◌∷◌, refl, sym, ap, ◌∙◌}
 use Rattle.std.specs.List.{list_all}
 use Rattle.std.proofs.lemmas.Bool.{and_from, and_parts}
 use Rattle.lab_base.specs.declared.ids.IfaceId.{IfaceId}
 use Rattle.lab_base.proofs.Tests.{same_tests}
 use Rattle.phys_lab.specs.Labs.{Lab}
 use Rattle.phys_lab.specs.Sides.{joined}
-use Rattle.phys_lab.proofs.SideLaws.{joined_same, joined_through, joined_back}
+use Rattle.phys_lab.proofs.SideLaws.{joined_through, joined_back}
 use Rattle.lab_model.specs.Uses.{switch_of}
 use Rattle.lab_model.specs.Rules.{are_joined}
 

@@ -1,5 +1,5 @@
 -- The loads of the ends that have one plug, one after another.
-use Rattle.std.proofs.Common.{◌≡◌, ℕ, zero, suc, ◌+◌, ◌-◌, ◌<◌, ◌≤◌, Bool, true, false, not, cond, eqb, List, [], ◌∷◌, length, take, drop, get_or, sym, ap, ◌∙◌, arith}
+use Rattle.std.proofs.Common.{◌≡◌, ℕ, suc, ◌+◌, ◌-◌, ◌<◌, ◌≤◌, Bool, true, false, not, cond, eqb, List, ◌∷◌, length, take, drop, get_or, ap, ◌∙◌, arith}
 use Rattle.std.specs.Prelude.{◌&&◌, nat_le, zip, sum_by}
 use Rattle.std.specs.List.{list_all}
 use Rattle.std.proofs.Math.Seq.{drop-cons}
@@ -16,10 +16,9 @@ use Rattle.virt_topo.specs.declared.loads.Load.{Load}
 use Rattle.virt_topo.specs.declared.wiring.Wiring.{Wiring}
 use Rattle.virt_topo.specs.declared.mapping.Mapping.{Mapping}
 use Rattle.virt_topo.specs.Ends.{end_nodes}
-use Rattle.virt_topo.specs.Loads.{loads_from, loads_of}
+use Rattle.virt_topo.specs.Loads.{loads_of}
 use Rattle.virt_topo.specs.Soundness.{IsSound, keeps_limits}
-use Rattle.virt_topo.proofs.CableLaws.{Limits, limits_of}
-use Rattle.virt_topo.proofs.LoadLaws.{length-loads}
+use Rattle.virt_topo.proofs.CableLaws.{limits_of}
 use Rattle.lab_model.specs.Uses.{iface_at}
 use Rattle.lab_model.specs.Rules.{keeps_f5, place_at, plug_at, loads_on, may_join, may_bear, no_load}
 

@@ -1,8 +1,7 @@
 -- The seat of a machine is of an experiment exactly where that experiment claims it.
 use Rattle.std.specs.Prelude.{slice_get, IsTrue, ◌↔◌}
-use Rattle.std.proofs.Common.{◌≡◌, ◌⊎◌, inl, inr, ℕ, ◌-◌, ◌<◌, ◌≤◌, Bool, true, false, Option, Some, None, List, length, refl, sym, ap, ◌∙◌, subst, arith}
+use Rattle.std.proofs.Common.{◌≡◌, inl, inr, ℕ, ◌-◌, ◌<◌, Bool, true, false, Option, Some, None, List, refl, sym, ap, ◌∙◌, subst, arith}
 use Rattle.std.proofs.lemmas.Bool.{cases_Bool, eqb-true, eq-eqb}
-use Rattle.std.proofs.lemmas.Option.{slice_get_within}
 use Rattle.lab_base.specs.Lists.{Has, Apart}
 use Rattle.lab_base.proofs.Members.{Has-slice_get}
 use Rattle.phys_lab.specs.Labs.{Lab}
@@ -10,9 +9,8 @@ use Rattle.virt_topo.specs.declared.experiment.Experiment.{Experiment}
 use Rattle.lab_model.specs.Claims.{Claims, claims_it}
 use Rattle.lab_model.proofs.Claiming.{claims_from, claims_test}
 use Rattle.records_model.specs.Labs.{LabState, lab_in, Sane}
-use Rattle.lab_view.specs.declared.view.Seat.{Seat}
 use Rattle.lab_view.specs.Views.{is_seat_of}
-use Rattle.lab_look.specs.Seats.{first_from, holder, seat_by, seat_at, seat_of}
+use Rattle.lab_look.specs.Seats.{holder, seat_by, seat_at, seat_of}
 use Rattle.lab_look.proofs.Firsts.{first_passes, none_passes, none_first, apart_at}
 
 abbrev claims_named : Lab → List ℕ → Experiment → Bool

@@ -1,15 +1,15 @@
 -- Records with the places of their gates, and the first one that can't follow.
 use Rattle.std.specs.Prelude.{slice_get}
-use Rattle.std.proofs.Common.{◌≡◌, inl, inr, ℕ, zero, suc, ◌+◌, ◌<◌, Option, Some, None, List, [], ◌∷◌, ◌++◌, length, map, drop, get_or, refl, sym, ap, ◌∙◌, subst, arith}
+use Rattle.std.proofs.Common.{◌≡◌, inl, inr, ℕ, zero, suc, ◌+◌, ◌<◌, Some, List, [], ◌∷◌, length, map, drop, get_or, refl, sym, ap, ◌∙◌, subst, arith}
 use Rattle.lab_base.specs.Lists.{Has}
 use Rattle.plant.specs.declared.step.Side.{Side}
 use Rattle.plant.specs.Sides.{of_side}
 use Rattle.journal_rec.specs.declared.record.Record.{Record}
 use Rattle.journal_rec.specs.declared.record.Found.{Found}
 use Rattle.journal_rec.specs.Payloads.{IsRecord}
-use Rattle.journal_model.specs.Journals.{head, live, Live, On, Reads, RecordsOf, Records, size}
+use Rattle.journal_model.specs.Journals.{Live, Reads, RecordsOf, size}
 use Rattle.journal_disk.specs.Walks.{placed}
-use Rattle.records_model.specs.Labs.{LabState, at_first, LabOf, Follows, StopsAt}
+use Rattle.records_model.specs.Labs.{LabState, at_first, LabOf, StopsAt}
 use Rattle.records_model.proofs.LabLaws.{stops_within}
 use Rattle.lab_state.specs.Texts.{the_texts}
 use Rattle.lab_state.specs.Replays.{records_of}

@@ -1,6 +1,6 @@
 -- The kbps that are claimed of a trunk.
 use Rattle.std.specs.Prelude.{sum_by}
-use Rattle.std.proofs.Common.{◌≡◌, ℕ, ◌+◌, ◌-◌, ◌<◌, ◌≤◌, Option, Some, None, length-append, List, [], ◌∷◌, length, map, get_or, refl, ap, ◌∙◌, subst, arith}
+use Rattle.std.proofs.Common.{◌≡◌, ℕ, ◌+◌, ◌-◌, ◌<◌, ◌≤◌, Option, Some, None, length-append, List, length, get_or, refl, ap, ◌∙◌, arith}
 use Rattle.std.proofs.lemmas.List.{length-map, get_or-map}
 use Rattle.lab_base.specs.Lists.{Has}
 use Rattle.lab_base.specs.declared.ids.VlanId.{VlanId}
@@ -9,13 +9,12 @@ use Rattle.phys_lab.specs.Sides.{trunk_at, no_trunk}
 use Rattle.phys_lab.specs.declared.parts.Trunk.{Trunk}
 use Rattle.virt_topo.specs.declared.experiment.Experiment.{Experiment}
 use Rattle.virt_topo.specs.declared.mapping.Mapped.{Mapped}
-use Rattle.virt_topo.specs.Soundness.{wiring_fault, IsSound}
+use Rattle.virt_topo.specs.Soundness.{IsSound}
 use Rattle.virt_topo.proofs.CableLaws.{limits_of, sound_keeps}
 use Rattle.lab_model.specs.Claims.{Which, Old, New, claimed, tags_of, claimed_use}
 use Rattle.lab_seen.specs.Claimed.{ids_claimed}
 use Rattle.claims.specs.Held.{Held, use_by}
 use Rattle.claims.specs.Experiments.{ClaimsOf}
-use Rattle.claims.proofs.Matching.{Match}
 use Rattle.claims.proofs.OthersLeave.{used_by, named_apart}
 use Rattle.records_model.specs.Labs.{LabState, Sane}
 

@@ -1,12 +1,11 @@
 -- The sides of a journal record by record, and whether they show damage.
-use Rattle.std.specs.Prelude.{◌≡◌, ◌<◌, ℕ, Bool, true, false, ◌&&◌, ◌||◌, not, nat_lt, List, length, Option, Some, None}
-use Rattle.plant.specs.declared.step.Side.{Side}
+use Rattle.std.specs.Prelude.{◌≡◌, ℕ, Bool, true, false, ◌&&◌, ◌||◌, not, nat_lt, List, length, Option, Some, None}
 use Rattle.plant.specs.Sides.{of_side}
 use Rattle.journal_rec.specs.declared.record.Found.{Found}
 use Rattle.journal_model.specs.Journals.{head, live, New, Bad}
 use Rattle.records_model.specs.Labs.{LabState}
 use Rattle.journal_disk.specs.declared.heads.Head.{Head}
-use Rattle.journal_disk.specs.declared.heads.Head.TheVariants.{Blank, Foreign, Headed}
+use Rattle.journal_disk.specs.declared.heads.Head.TheVariants.{Blank, Headed}
 use Rattle.journal_disk.specs.Heads.{seen}
 use Rattle.lab_sides.specs.Heads.{shut_head, is_cut}
 use Rattle.lab_sides.specs.Walks.{AreThere}

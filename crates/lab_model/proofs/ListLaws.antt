@@ -1,6 +1,6 @@
 -- Experiments that claim nothing come and go.
 use Rattle.std.specs.List.{flat_map, sum_by}
-use Rattle.std.proofs.Common.{◌≡◌, ◌≢◌, inl, inr, ℕ, ◌+◌, ◌≤◌, Option, Some, None, List, [], ◌∷◌, ◌++◌, refl, sym, ap, ◌∙◌, subst, arith, zero-add}
+use Rattle.std.proofs.Common.{◌≡◌, inl, inr, ℕ, ◌+◌, ◌≤◌, None, List, [], ◌∷◌, ◌++◌, refl, sym, ap, ◌∙◌, subst, zero-add}
 use Rattle.std.proofs.lemmas.List.Sums.{sum_by-append}
 use Rattle.lab_base.specs.Lists.{Has, Apart, AllDiffer}
 use Rattle.lab_base.proofs.Members.{Has-append, Has-either}

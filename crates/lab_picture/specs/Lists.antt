@@ -1,5 +1,5 @@
 -- The lists below a lab: its VLAN ids, and its experiments.
-use Rattle.std.specs.Prelude.{ℕ, false, ◌+◌, ◌-◌, ◌==◌, if◌then◌else◌, List, [], ◌∷◌, ◌++◌, length, flat_map, codes, decimal, slice_get, Option, Some, None}
+use Rattle.std.specs.Prelude.{ℕ, false, ◌+◌, ◌-◌, ◌==◌, if◌then◌else◌, List, [], ◌++◌, length, flat_map, codes, decimal, slice_get, Option, Some, None}
 use Rattle.std.specs.List.{range_with_len}
 use Rattle.lab_view.specs.declared.view.View.{View}
 use Rattle.lab_view.specs.declared.view.Exp.{Exp}

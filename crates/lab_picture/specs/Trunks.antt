@@ -1,5 +1,5 @@
 -- Trunks, as they are drawn.
-use Rattle.std.specs.Prelude.{ℕ, ◌-◌, ◌*◌, ◌/◌, ◌%◌, ◌==◌, min, max, nat_le, if◌then◌else◌, List, [], ◌∷◌, ◌++◌, codes, decimal, slice_get, Option, Some, None}
+use Rattle.std.specs.Prelude.{ℕ, ◌*◌, ◌/◌, ◌%◌, ◌==◌, min, max, nat_le, if◌then◌else◌, List, [], ◌++◌, codes, decimal, slice_get, Option, Some, None}
 use Rattle.lab_view.specs.declared.view.View.{View}
 use Rattle.lab_view.specs.declared.view.Trunk.{Trunk}
 use Rattle.lab_picture.specs.declared.geometry.Geometry.{Geometry}
@@ -7,7 +7,7 @@ use Rattle.lab_picture.specs.declared.geometry.Line.{Line}
 use Rattle.lab_picture.specs.declared.geometry.Label.{Label}
 use Rattle.lab_picture.specs.declared.tags.Piece.TheVariants as tags
 use Rattle.lab_picture.specs.Tags.{tag}
-use Rattle.lab_picture.specs.Shapes.{field, label, way_text}
+use Rattle.lab_picture.specs.Shapes.{field, way_text}
 
 -- a number of tenths
 abbrev pub tenth : ℕ → List ℕ

@@ -1,6 +1,6 @@
 -- The step of a loop over numbers that adds a text for each.
 use Rattle.std.specs.List.{flat_map, range_with_len}
-use Rattle.std.proofs.Common.{◌≡◌, ℕ, ◌+◌, List, [], ◌++◌, ap, sym, ◌∙◌, refl, append_assoc}
+use Rattle.std.proofs.Common.{◌≡◌, ℕ, ◌+◌, List, [], ◌++◌, ap, sym, ◌∙◌}
 use Rattle.std.proofs.lemmas.List.{flat_map_more}
 use Rattle.lab_base.proofs.Lists.{range_push}
 

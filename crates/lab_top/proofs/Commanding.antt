@@ -10,7 +10,7 @@ use Rattle.lab_io.proofs.Passing.{passed_none, passed_more}
 use Rattle.lab_io.proofs.LineLaws.{lines-none}
 use Rattle.script_text.specs.declared.command.Command.{Command}
 use Rattle.script_text.specs.declared.next.Next.TheVariants as nexts
-use Rattle.script_text.specs.Commands.{Lines, Found, next_of, Ending, AtEnd, Bad, BadLine, ending, AreCommands, IsScript}
+use Rattle.script_text.specs.Commands.{Lines, Found, next_of, Ending, AtEnd, BadLine, ending, AreCommands, IsScript}
 use Rattle.script_text.specs.Taking.{known, Reads, IsBad, IsUnfinished, IsWithin, NoFurther}
 use Rattle.script_text.proofs.Taken.{told_lines, known_behind, next_within, no_line, read_within}
 use Rattle.lab_top.specs.declared.status.Status.TheVariants as statuses

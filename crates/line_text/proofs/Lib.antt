@@ -5,5 +5,6 @@ pub mod PrintLaws
 pub mod PartsAgain
 pub mod LinesAgain
 pub mod Plain
+pub mod RatesAgain
 pub mod Widths
 pub mod AddressLaws

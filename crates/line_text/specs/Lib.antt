@@ -3,4 +3,5 @@ pub mod Refusals
 pub mod Printing
 pub mod Fields
 pub mod Pairs
+pub mod Rates
 pub mod Addresses

@@ -1,9 +1,25 @@
 // Parts of canonical lines.
-ghost use Rattle.std.specs.Prelude.{◌≡◌, ◌++◌, ◌∷◌, true, OnOk};
+ghost use Rattle.std.specs.Prelude.{◌≡◌, ◌++◌, ◌∷◌, true, decimal, OnOk};
 ghost use Rattle.lab_base.specs.Names.{is_name};
 ghost use Rattle.line_text.specs.Printing.{with_number};
 
 use lab_base::{Memory, Name, Text};
+
+/// A space and a word.
+pub fn push_word(text: &mut Text, word: &[u8]) -> Result<(), Memory>
+    ensures { OnOk result (text.new ≡ text.old ++ 32 ∷ word.now) }
+{
+    text.push(b' ')?;
+    text.push_bytes(word)
+}
+
+/// A space and a number.
+pub fn push_count(text: &mut Text, number: u64) -> Result<(), Memory>
+    ensures { OnOk result (text.new ≡ text.old ++ 32 ∷ decimal number) }
+{
+    text.push(b' ')?;
+    text.push_number(number)
+}
 
 /// A space and a name.
 pub fn push_field(text: &mut Text, name: &Name) -> Result<(), Memory>

@@ -1,16 +1,15 @@
 -- The plan of a virtual node that is alone on a node hangs on these two alone.
-use Rattle.std.proofs.Common.{◌≡◌, ◌<◌, ◌∙◌, ◌∷◌, ◌++◌, [], ℕ, zero, suc, List, length, map, get_or, filter, Bool, true, false, cond, eqb, ◌==◌, Option, Some, None, All, refl, ap, sym, subst, arith}
+use Rattle.std.proofs.Common.{◌≡◌, ◌<◌, ◌∙◌, ◌∷◌, ◌++◌, [], ℕ, zero, suc, List, length, map, get_or, filter, Bool, true, false, cond, ◌==◌, Option, Some, None, All, refl, ap, sym, arith}
 use Rattle.std.specs.Option.{option_map, option_map_or, option_and_then}
 use Rattle.std.proofs.lemmas.Bool.{eqb-true}
 use Rattle.std.proofs.lemmas.Option.{slice_get-get_or}
-use Rattle.lab_base.specs.declared.ids.IfaceId.{IfaceId}
 use Rattle.lab_base.specs.declared.ids.NodeId.{NodeId}
 use Rattle.phys_lab.specs.Labs.{Lab}
 use Rattle.lab_model.specs.Shapes.{Place}
 use Rattle.lab_model.specs.Rules.{no_place, Laid}
 use Rattle.node_maps.specs.declared.ends.End.{End}
 use Rattle.node_maps.specs.NodeMaps.{load_of, first_iface, with_plug, laid_from, plugs_in, plugs_from}
-use Rattle.map_board.specs.Nodes.{is_on, numbers_of, no_end}
+use Rattle.map_board.specs.Nodes.{is_on, no_end}
 use Rattle.map_board.specs.Seated.{guests_at}
 use Rattle.map_board.proofs.BoardLaws.{own_on}
 use Rattle.map_board.proofs.WhereLaws.{numbered_ends}

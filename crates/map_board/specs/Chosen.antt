@@ -1,5 +1,5 @@
 -- CHOICES THAT CHANGE PLACE BY PLACE, and the nodes whose ends may still have the plugs of an earlier one.
-use Rattle.std.specs.Prelude.{◌≡◌, ℕ, true, false, [], length, filter, Some, slice_index_or}
+use Rattle.std.specs.Prelude.{◌≡◌, ℕ, true, false, length, filter, Some, slice_index_or}
 use Rattle.virt_topo.specs.declared.mapping.Mapping.{Mapping}
 use Rattle.node_maps.specs.NodeMaps.{plugs_from}
 use Rattle.node_maps.specs.Moved.{may_share}

@@ -1,5 +1,5 @@
 -- The plugs that the interface rule gives are as they have to be.
-use Rattle.std.proofs.Common.{◌≡◌, ◌<◌, ◌+◌, ◌∷◌, [], ◌++◌, ◌∙◌, ℕ, suc, zero, List, length, take, map, replicate, get_or, Bool, true, ◌==◌, ◌&&◌, Option, Some, None, All, refl, ap, sym, subst, arith, length-append, append_assoc}
+use Rattle.std.proofs.Common.{◌≡◌, ◌<◌, ◌+◌, ◌∷◌, [], ◌++◌, ◌∙◌, ℕ, suc, zero, List, length, take, map, replicate, get_or, true, Option, Some, None, All, refl, ap, sym, subst, arith, length-append, append_assoc}
 use Rattle.std.specs.Prelude.{zip}
 use Rattle.std.specs.List.{slice_get}
 use Rattle.std.specs.Option.{option_map, option_map_or, option_and_then}

@@ -4,7 +4,6 @@ use Rattle.std.proofs.Common.{◌≡◌, ℕ, suc, Bool, true, false, List, [], 
 use Rattle.lab_base.specs.Names.{same_name}
 use Rattle.virt_topo.specs.Ends.{end_nodes, end_number}
 use Rattle.virt_topo.specs.Soundness.{owner_at}
-use Rattle.virt_topo.specs.declared.wiring.Pipe.{Pipe}
 use Rattle.virt_topo.specs.declared.wiring.Wiring.{Wiring}
 use Rattle.ns_events.specs.declared.event.Event.{Event}
 use Rattle.ns_events.specs.Changes.{IsApplied}

@@ -1,5 +1,5 @@
 -- Events of one moment.
-use Rattle.std.proofs.Common.{◌≡◌, ℕ, Bool, List, filter, sym, ◌∙◌, arith}
+use Rattle.std.proofs.Common.{◌≡◌, ℕ, List, filter, sym, ◌∙◌, arith}
 use Rattle.std.specs.Prelude.{◌==◌, codes}
 use Rattle.std.specs.List.Sorted.{ties}
 use Rattle.std.specs.Ordering.{is_lt, nat_cmp}

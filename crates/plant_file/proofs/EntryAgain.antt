@@ -1,19 +1,20 @@
 -- The line of an entry is read as the entry.
-use Rattle.std.proofs.Common.{◌≡◌, ℕ, ◌≤◌, ◌-◌, ◌^◌, true, List, ◌++◌, Ok, refl, arith}
-use Rattle.std.specs.Prelude.{codes, decimal, nat_le}
+use Rattle.std.proofs.Common.{◌≡◌, true, [], Ok, refl, arith}
+use Rattle.std.specs.Prelude.{codes, nat_le}
 use Rattle.std.proofs.lemmas.Bool.{and_parts, leb-true}
 use Rattle.lab_base.specs.Names.{is_name}
 use Rattle.lab_base.specs.Kinds.{both_of}
 use Rattle.lab_base.specs.declared.boot.Boot.{Boot}
 use Rattle.lab_base.specs.declared.boot.Boot.TheVariants.{Off, Shutdown, Booting, TbSetup, IsUp}
-use Rattle.lab_base.specs.declared.rates.Rates.{Rates}
+use Rattle.line_text.specs.Rates.{rates_fields, are_held, any_rates}
 use Rattle.line_text.proofs.PartsAgain.{IsPlain, name_again, number_back, plain_name, plain_number}
 use Rattle.line_text.proofs.LinesAgain.{IsPrinted}
 use Rattle.line_text.proofs.Plain.{ArePlain, none, more}
+use Rattle.line_text.proofs.RatesAgain.{HoldLimits, held_within, rates_again, rates_plain}
 use Rattle.plant_file.specs.declared.entry.Entry.{Entry}
 use Rattle.plant_file.specs.declared.entry.Entry.TheVariants.{Row, Bare, Node, Pipe}
-use Rattle.plant_file.specs.Lines.{boot_word, boot_of, rates_fields, entry_fields, as_row, as_bare, as_node, as_rates, as_pipe, rates_of, entry_of}
-use Rattle.plant_file.specs.Printable.{are_rates, are_pipe_ends, is_printable}
+use Rattle.plant_file.specs.Lines.{boot_word, boot_of, entry_fields, as_row, as_bare, as_node, as_pipe, entry_of}
+use Rattle.plant_file.specs.Printable.{are_pipe_ends, is_printable}
 
 boot_again : (state : Boot) → boot_of (boot_word state) ≡ Ok state
 boot_again Off = refl
@@ -22,21 +23,8 @@ boot_again Booting = refl
 boot_again TbSetup = refl
 boot_again IsUp = refl
 
-record RateLimits (r : Rates) : Type 0 where
-  pub kbps : r.kbps ≤ 2 ^ 64 - 1
-  pub micros : r.micros ≤ 2 ^ 32 - 1
-  pub ppm : r.ppm ≤ 2 ^ 32 - 1
-
-rate_limits : (r : Rates) → are_rates r ≡ true → RateLimits r
-rate_limits r h =
-    let a = and_parts (nat_le r.kbps (2 ^ 64 - 1)) _ h in
-    let b = and_parts (nat_le r.micros (2 ^ 32 - 1)) (nat_le r.ppm (2 ^ 32 - 1)) a.1 in
-    record { kbps = leb-true r.kbps (2 ^ 64 - 1) a.0; micros = leb-true r.micros (2 ^ 32 - 1) b.0; ppm = leb-true r.ppm (2 ^ 32 - 1) b.1 }
-
-rates_again : (r : Rates) → are_rates r ≡ true → rates_of (decimal r.kbps) (decimal r.micros) (decimal r.ppm) ≡ Ok r
-rates_again r h =
-    let l = rate_limits r h in
-    λ j. as_rates (both_of (number_back 0 (2 ^ 64 - 1) r.kbps (omega arith) l.kbps (omega arith) j) (both_of (number_back 0 (2 ^ 32 - 1) r.micros (omega arith) l.micros (omega arith) j) (number_back 0 (2 ^ 32 - 1) r.ppm (omega arith) l.ppm (omega arith) j)))
+held : HoldLimits any_rates
+held = record { kbps = omega arith; micros = omega arith; ppm = omega arith }
 
 pub entry_again : (entry : Entry) → is_printable entry ≡ true → entry_of (entry_fields entry) ≡ Ok entry
 entry_again (Row switch port vlan) h =
@@ -52,9 +40,9 @@ entry_again (Pipe node number from to there back) h =
     let b = and_parts (is_name node) _ a.0 in
     let c = and_parts (nat_le number 65535) _ b.1 in
     let d = and_parts (is_name from) (is_name to) c.1 in
-    let r = and_parts (are_rates there) (are_rates back) a.1 in
+    let r = and_parts (are_held there) (are_held back) a.1 in
     λ j. as_pipe (both_of (both_of (name_again node b.0 j) (number_back 0 65535 number (omega arith) (leb-true number 65535 c.0) (omega arith) j))
-    (both_of (both_of (name_again from d.0 j) (name_again to d.1 j)) (both_of (rates_again there r.0 j) (rates_again back r.1 j))))
+    (both_of (both_of (name_again from d.0 j) (name_again to d.1 j)) (both_of (rates_again any_rates there held (held_within there r.0) j) (rates_again any_rates back held (held_within back r.1) j))))
 
 -- THE FIELDS ARE PLAIN
 
@@ -74,11 +62,6 @@ boot_plain Booting = record { filled = refl; no_blank = refl; no_feed = refl }
 boot_plain TbSetup = record { filled = refl; no_blank = refl; no_feed = refl }
 boot_plain IsUp = record { filled = refl; no_blank = refl; no_feed = refl }
 
-rates_plain : (r : Rates) (rest : List (List ℕ)) → are_rates r ≡ true → ArePlain rest → ArePlain (rates_fields r ++ rest)
-rates_plain r rest h others =
-    let l = rate_limits r h in
-    more _ _ (plain_number r.kbps (omega (arith, l.kbps))) (more _ _ (plain_number r.micros (omega (arith, l.micros))) (more _ _ (plain_number r.ppm (omega (arith, l.ppm))) others))
-
 fields_plain : (entry : Entry) → is_printable entry ≡ true → ArePlain (entry_fields entry)
 fields_plain (Row switch port vlan) h =
     let a = and_parts (is_name switch) _ h in
@@ -93,14 +76,9 @@ fields_plain (Pipe node number from to there back) h =
     let b = and_parts (is_name node) _ a.0 in
     let c = and_parts (nat_le number 65535) _ b.1 in
     let d = and_parts (is_name from) (is_name to) c.1 in
-    let r = and_parts (are_rates there) (are_rates back) a.1 in
+    let r = and_parts (are_held there) (are_held back) a.1 in
     more _ _ pipe_plain (more _ _ (plain_name node b.0) (more _ _ (plain_number number (omega (arith, leb-true number 65535 c.0))) (more _ _ (plain_name from d.0) (more _ _ (plain_name to d.1)
-    (rates_plain there (rates_fields back) r.0 (rates_last back r.1))))))
-  where
-    rates_last : (r : Rates) → are_rates r ≡ true → ArePlain (rates_fields r)
-    rates_last r h =
-        let l = rate_limits r h in
-        more _ _ (plain_number r.kbps (omega (arith, l.kbps))) (more _ _ (plain_number r.micros (omega (arith, l.micros))) (more _ _ (plain_number r.ppm (omega (arith, l.ppm))) none))
+    (rates_plain any_rates there (rates_fields back) held (held_within there r.0) (rates_plain any_rates back [] held (held_within back r.1) none))))))
 
 pub entry_printed : (entry : Entry) → is_printable entry ≡ true → IsPrinted (entry_fields entry)
 entry_printed (Row switch port vlan) h = record { kept = refl; plain = (fields_plain (Row switch port vlan) h).each }

@@ -1,5 +1,5 @@
 -- The text of the tables.
-use Rattle.std.specs.Prelude.{ℕ, ◌==◌, ◌-◌, ◌^◌, List, [], ◌∷◌, ◌++◌, length, map, codes, decimal, Result, Ok, Err, if◌then◌else◌}
+use Rattle.std.specs.Prelude.{ℕ, ◌==◌, List, [], ◌∷◌, ◌++◌, length, map, codes, decimal, Result, Ok, Err, if◌then◌else◌}
 use Rattle.std.specs.Str.{bytes_eq}
 use Rattle.lab_base.specs.Texts.{lines_of}
 use Rattle.lab_base.specs.Parts.{name_of, number_from}
@@ -12,6 +12,7 @@ use Rattle.lab_base.specs.declared.fault.TextFault.{TextFault}
 use Rattle.lab_base.specs.declared.rates.Rates.{Rates}
 use Rattle.line_text.specs.Fields.{field_at}
 use Rattle.line_text.specs.Printing.{text_of}
+use Rattle.line_text.specs.Rates.{rates_fields, any_rates, both_rates_at}
 use Rattle.line_text.specs.Reading.{and_then, read_from}
 use Rattle.plant_file.specs.declared.entry.Entry.{Entry}
 use Rattle.plant_file.specs.declared.entry.Entry.TheVariants.{Row, Bare, Node, Pipe}
@@ -24,9 +25,6 @@ boot_word Shutdown = codes "SHUTDOWN"
 boot_word Booting = codes "BOOTING"
 boot_word TbSetup = codes "TBSETUP"
 boot_word IsUp = codes "ISUP"
-
-abbrev pub rates_fields : Rates → List (List ℕ)
-rates_fields rates = decimal rates.kbps ∷ decimal rates.micros ∷ decimal rates.ppm ∷ []
 
 -- `row SWITCH PORT VLAN`, `node NODE STATE` with the OS behind it, `pipe NODE NUMBER FROM TO` with six rates
 abbrev pub entry_fields : Entry → List (List ℕ)
@@ -78,14 +76,6 @@ loaded_line fields = as_node (both_of (name_of (field_at fields 0)) (both_of (bo
 abbrev pub node_line : List (List ℕ) → Result Entry Kind
 node_line fields = if length fields == 2 then bare_line fields else if length fields == 3 then loaded_line fields else Err kinds.Fields
 
-abbrev pub as_rates : Result (ℕ × (ℕ × ℕ)) Kind → Result Rates Kind
-as_rates (Ok (kbps, (micros, ppm))) = Ok (record { kbps = kbps; micros = micros; ppm = ppm })
-as_rates (Err kind) = Err kind
-
--- the rates of three fields, of any numbers that the program can hold
-abbrev pub rates_of : List ℕ → List ℕ → List ℕ → Result Rates Kind
-rates_of kbps micros ppm = as_rates (both_of (number_from 0 (2 ^ 64 - 1) kbps) (both_of (number_from 0 (2 ^ 32 - 1) micros) (number_from 0 (2 ^ 32 - 1) ppm)))
-
 abbrev pub as_pipe : Result ((List ℕ × ℕ) × ((List ℕ × List ℕ) × (Rates × Rates))) Kind → Result Entry Kind
 as_pipe (Ok ((node, number), ((from, to), (there, back)))) = Ok (Pipe node number from to there back)
 as_pipe (Err kind) = Err kind
@@ -94,8 +84,7 @@ abbrev pub pipe_line : List (List ℕ) → Result Entry Kind
 pipe_line fields =
     if length fields == 10
     then as_pipe (both_of (both_of (name_of (field_at fields 0)) (number_from 0 65535 (field_at fields 1)))
-    (both_of (both_of (name_of (field_at fields 2)) (name_of (field_at fields 3)))
-    (both_of (rates_of (field_at fields 4) (field_at fields 5) (field_at fields 6)) (rates_of (field_at fields 7) (field_at fields 8) (field_at fields 9)))))
+    (both_of (both_of (name_of (field_at fields 2)) (name_of (field_at fields 3))) (both_rates_at any_rates fields 4)))
     else Err kinds.Fields
 
 -- a line by its keyword

@@ -1,15 +1,23 @@
 // The lines of the tables, by their fields.
-ghost use Rattle.std.specs.Prelude.{◌≡◌, ◌<◌, ◌+◌};
+ghost use Rattle.std.specs.Prelude.{◌≡◌};
 ghost use Rattle.lab_base.specs.Texts.{views};
 ghost use Rattle.lab_base.specs.Kinds.{both_of};
 ghost use Rattle.lab_base.specs.Parts.{name_of, number_from};
 ghost use Rattle.line_text.specs.Fields.{field_at};
-ghost use Rattle.plant_file.specs.Lines.{boot_of, as_row, row_line, as_bare, bare_line, as_node, loaded_line, node_line, as_rates, rates_of, as_pipe, pipe_line, keyed, entry_of};
+ghost use Rattle.plant_file.specs.Lines.{boot_of, as_row, row_line, as_bare, bare_line, as_node, loaded_line, node_line, as_pipe, pipe_line, keyed, entry_of};
 
 use crate::boots::boot_in;
 use crate::entry::Entry;
-use lab_base::{Boot, Kind, Name, Rates, VlanId, both, number_in};
-use line_text::{field_at, name_at, short_in, weight_in};
+use lab_base::{Boot, Kind, Name, Rates, VlanId, both};
+use line_text::{RateLimits, both_rates_at, field_at, name_at, short_in};
+
+/// Rates of any numbers that the program can hold.
+const ANY_RATES: RateLimits = RateLimits {
+    least_kbps: 0,
+    most_kbps: u64::MAX,
+    most_micros: u32::MAX,
+    most_ppm: u32::MAX,
+};
 
 fn short_at(fields: &[&[u8]], n: usize) -> Result<u16, Kind>
     ensures { result ≡ number_from 0 u16.MAX (field_at (views fields.now) n) }
@@ -104,37 +112,6 @@ fn node_in(fields: &[&[u8]]) -> Result<Entry, Kind>
     }
 }
 
-fn as_rates(read: Result<(u64, (u32, u32)), Kind>) -> Result<Rates, Kind>
-    ensures { result ≡ as_rates read }
-{
-    match read {
-        Ok((kbps, (micros, ppm))) => Ok(Rates { kbps, micros, ppm }),
-        Err(kind) => Err(kind),
-    }
-}
-
-fn rates_in(kbps: &[u8], micros: &[u8], ppm: &[u8]) -> Result<Rates, Kind>
-    ensures { result ≡ rates_of kbps.now micros.now ppm.now }
-{
-    let delay = weight_in(micros, u32::MAX);
-    let loss = weight_in(ppm, u32::MAX);
-    let behind = both(delay, loss);
-    let speed = number_in(kbps, 0, u64::MAX);
-    let whole = both(speed, behind);
-    as_rates(whole)
-}
-
-/// The rates of three fields.
-fn rates_at(fields: &[&[u8]], n: usize) -> Result<Rates, Kind>
-    requires { n < 10 }
-    ensures { result ≡ rates_of (field_at (views fields.now) n) (field_at (views fields.now) (n + 1)) (field_at (views fields.now) (n + 2)) }
-{
-    let kbps = field_at(fields, n);
-    let micros = field_at(fields, n + 1);
-    let ppm = field_at(fields, n + 2);
-    rates_in(kbps, micros, ppm)
-}
-
 /// A pipe's node and number, its two interfaces, and its rates there and back.
 type PipeRead = ((Name, u16), ((Name, Name), (Rates, Rates)));
 
@@ -152,15 +129,6 @@ fn as_pipe(read: Result<PipeRead, Kind>) -> Result<Entry, Kind>
         }),
         Err(kind) => Err(kind),
     }
-}
-
-fn both_rates_at(fields: &[&[u8]]) -> Result<(Rates, Rates), Kind>
-    ensures { result ≡ both_of (rates_of (field_at (views fields.now) 4) (field_at (views fields.now) 5) (field_at (views fields.now) 6))
-        (rates_of (field_at (views fields.now) 7) (field_at (views fields.now) 8) (field_at (views fields.now) 9)) }
-{
-    let there = rates_at(fields, 4);
-    let back = rates_at(fields, 7);
-    both(there, back)
 }
 
 fn interfaces_at(fields: &[&[u8]]) -> Result<(Name, Name), Kind>
@@ -186,7 +154,7 @@ fn pipe_in(fields: &[&[u8]]) -> Result<Entry, Kind>
     if fields.len() != 10 {
         return Err(Kind::Fields);
     }
-    let rates = both_rates_at(fields);
+    let rates = both_rates_at(ANY_RATES, fields, 4);
     let interfaces = interfaces_at(fields);
     let behind = both(interfaces, rates);
     let key = pipe_key_at(fields);

@@ -1,30 +1,14 @@
-ghost use Rattle.std.specs.Prelude.{◌≡◌, ◌++◌, ◌∷◌, true, decimal, OnOk, IfOk};
+ghost use Rattle.std.specs.Prelude.{◌≡◌, ◌++◌, true, OnOk, IfOk};
 ghost use Rattle.lab_base.specs.Names.{is_name};
-ghost use Rattle.line_text.specs.Printing.{line_text, spaced};
-ghost use Rattle.plant_file.specs.Lines.{rates_fields, entry_fields};
-ghost use Rattle.plant_file.specs.Printable.{are_rates, is_printable};
+ghost use Rattle.line_text.specs.Printing.{line_text};
+ghost use Rattle.plant_file.specs.Lines.{entry_fields};
+ghost use Rattle.plant_file.specs.Printable.{is_printable};
 
 use crate::boots::boot_word;
 use crate::entry::Entry;
-use lab_base::{Boot, Memory, Name, Rates, Text, VlanId};
-use line_text::push_field;
+use lab_base::{Boot, Memory, Name, Text, VlanId};
+use line_text::{push_both_rates, push_count, push_field, push_word};
 use std::alloc::Global;
-
-/// A space and a word.
-fn push_word(text: &mut Text, word: &[u8]) -> Result<(), Memory>
-    ensures { OnOk result (text.new ≡ text.old ++ 32 ∷ word.now) }
-{
-    text.push(b' ')?;
-    text.push_bytes(word)
-}
-
-/// A space and a number.
-fn push_count(text: &mut Text, number: u64) -> Result<(), Memory>
-    ensures { OnOk result (text.new ≡ text.old ++ 32 ∷ decimal number) }
-{
-    text.push(b' ')?;
-    text.push_number(number)
-}
 
 fn push_row(text: &mut Text, switch: &Name, port: u16, vlan: VlanId) -> Result<(), Memory>
     ensures text { OnOk result (text.new ≡ text.old ++ line_text (entry_fields (Entry.Row switch.now port vlan))) }
@@ -56,24 +40,6 @@ fn push_node(text: &mut Text, node: &Name, state: Boot, os: &Name) -> Result<(),
     push_word(text, boot_word(state))?;
     push_field(text, os)?;
     text.push(b'\n')
-}
-
-fn push_rates(text: &mut Text, rates: Rates) -> Result<(), Memory>
-    ensures text { OnOk result (text.new ≡ text.old ++ spaced (rates_fields rates)) }
-    ensures printable { OnOk result (are_rates rates ≡ true) }
-{
-    push_count(text, rates.kbps)?;
-    push_count(text, u64::from(rates.micros))?;
-    push_count(text, u64::from(rates.ppm))
-}
-
-fn push_both_rates(text: &mut Text, there: Rates, back: Rates) -> Result<(), Memory>
-    ensures text { OnOk result (text.new ≡ text.old ++ spaced (rates_fields there ++ rates_fields back)) }
-    ensures there { OnOk result (are_rates there ≡ true) }
-    ensures back { OnOk result (are_rates back ≡ true) }
-{
-    push_rates(text, there)?;
-    push_rates(text, back)
 }
 
 fn push_entry(text: &mut Text, entry: &Entry) -> Result<(), Memory>

@@ -14,7 +14,7 @@ use Rattle.phys_lab.specs.Labs.{Lab}
 use Rattle.virt_topo.specs.declared.experiment.Experiment.{Experiment}
 use Rattle.virt_topo.specs.declared.experiment.Phase.{Phase}
 use Rattle.virt_topo.specs.declared.experiment.Phase.TheVariants.{Out, In, Moving}
-use Rattle.records_model.specs.Labs.{LabState, Move, find, replace, becomes, moved, moved_of, moved_in, in_state, inside, in_phase}
+use Rattle.records_model.specs.Labs.{LabState, find, replace, becomes, moved, moved_of, in_state, inside, in_phase}
 use Rattle.records_model.proofs.Finding.{none_some}
 use Rattle.records_model.proofs.LabLaws.{found_one, with_replaced-some}
 use Rattle.swap_turns.specs.Swaps.{Swap}

@@ -1,5 +1,5 @@
 -- The manager goes on.
-use Rattle.std.proofs.Common.{◌≡◌, List, Option, refl, sym, subst}
+use Rattle.std.proofs.Common.{◌≡◌, List, Option, refl, subst}
 use Rattle.std.specs.Prelude.{is_none}
 use Rattle.lab_base.specs.Lists.{Has}
 use Rattle.plant.specs.Told.{Told}

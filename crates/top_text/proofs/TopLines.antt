@@ -17,7 +17,9 @@ use Rattle.lab_base.proofs.Bytes.{bytes_turned, bytes_self}
 use Rattle.line_text.specs.Fields.{counts}
 use Rattle.line_text.specs.Printing.{with_number}
 use Rattle.line_text.specs.Pairs.{pair_at}
+use Rattle.line_text.specs.Rates.{rates_fields}
 use Rattle.line_text.proofs.PartsAgain.{position_none, no_byte, no_byte_name, has_again, pair_again, name_again, number_back, numbered_again, all_again, all_has}
+use Rattle.line_text.proofs.RatesAgain.{HoldLimits, AreWithin, rates_again}
 use Rattle.virt_topo.specs.declared.wiring.Asks.{Asks}
 use Rattle.virt_topo.specs.declared.wiring.Asks.TheVariants.{Plain, Class as InClass}
 use Rattle.virt_topo.specs.declared.wiring.Class.{Class}
@@ -31,9 +33,9 @@ use Rattle.virt_topo.specs.Repeats.{stands_again}
 use Rattle.virt_topo.specs.Soundness.{is_speed, are_rates, limits_class, limits_node, knows_class, asks_class_name}
 use Rattle.virt_topo.specs.Soundness as soundness
 use Rattle.virt_topo.proofs.CableLaws.{SegmentLimits}
-use Rattle.top_text.specs.Lines.{End, bare, addressed, end_parts, end_of, weight_of, as_rates, rates_of, as_class, class_line, node_line, fix_line, link_line, multiplex_line, pipe_line}
+use Rattle.top_text.specs.Lines.{End, bare, addressed, end_parts, end_of, weight_of, pipe_rates, as_class, class_line, node_line, fix_line, link_line, multiplex_line, pipe_line}
 use Rattle.top_text.specs.Adding.{asks_at}
-use Rattle.top_text.specs.Canonical.{virt_name, class_name, behind_name, address_text, end_field, asked_name, rates_fields}
+use Rattle.top_text.specs.Canonical.{virt_name, class_name, behind_name, address_text, end_field, asked_name}
 use Rattle.top_text.specs.Printable.{named_class, named_asks, named_node, named_segment, is_address}
 use Rattle.top_text.proofs.AddressAgain.{address_again, no_equals}
 use Rattle.top_text.proofs.OwnPlaces.{own_place}
@@ -138,29 +140,21 @@ multiplex_again name n = name_again name n
 
 -- A PIPE
 
-pub record RateLimits (r : Rates) : Type 0 where
-  pub some : 1 ≤ r.kbps
-  pub slow : r.kbps ≤ 1000000000
-  pub late : r.micros ≤ 10000000
-  pub lost : r.ppm ≤ 1000000
-
-pub rate_limits : (r : Rates) → are_rates r ≡ true → RateLimits r
-rate_limits r h =
+pub rates_within : (r : Rates) → are_rates r ≡ true → AreWithin pipe_rates r
+rates_within r h =
     let a = and_parts (is_speed r.kbps) _ h in
     let b = and_parts (nat_le 1 r.kbps) (nat_le r.kbps 1000000000) a.0 in
     let d = and_parts (nat_le r.micros 10000000) (nat_le r.ppm 1000000) a.1 in
     record { some = leb-true 1 r.kbps b.0; slow = leb-true r.kbps 1000000000 b.1; late = leb-true r.micros 10000000 d.0; lost = leb-true r.ppm 1000000 d.1 }
 
-rates_again : (r : Rates) → are_rates r ≡ true → rates_of (decimal r.kbps) (decimal r.micros) (decimal r.ppm) ≡ Ok r
-rates_again r h =
-    let l = rate_limits r h in
-    λ j. as_rates (both_of (number_back 1 1000000000 r.kbps l.some l.slow (omega arith) j) (both_of (number_back 0 10000000 r.micros (omega arith) l.late (omega arith) j) (number_back 0 1000000 r.ppm (omega arith) l.lost (omega arith) j)))
+pub held : HoldLimits pipe_rates
+held = record { kbps = omega arith; micros = omega arith; ppm = omega arith }
 
 pub pipe_again : (name : List ℕ) (p : Pipe) → is_name name ≡ true → p.from ≤ 65535 → p.to ≤ 65535 → are_rates p.there ≡ true → are_rates p.back ≡ true
     → pipe_line (name ∷ decimal p.from ∷ decimal p.to ∷ rates_fields p.there ++ rates_fields p.back) ≡ Ok (name, ((p.from, p.to), (p.there, p.back)))
 pipe_again name p named from to there back =
     λ j. both_of (name_again name named j) (both_of (both_of (number_back 0 65535 p.from (omega arith) from (omega arith) j) (number_back 0 65535 p.to (omega arith) to (omega arith) j))
-    (both_of (rates_again p.there there j) (rates_again p.back back j)))
+    (both_of (rates_again pipe_rates p.there held (rates_within p.there there) j) (rates_again pipe_rates p.back held (rates_within p.back back) j)))
 
 -- the end v:k is not among the first k ends
 pub number_high : (ends : List ℕ) (v k : ℕ) → end_number ends v k < length ends → k ≤ end_number ends v k

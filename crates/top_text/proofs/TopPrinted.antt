@@ -6,23 +6,25 @@ use Rattle.std.proofs.lemmas.Bool.{and_parts, leb-true, ltb-true}
 use Rattle.std.proofs.lemmas.List.{append-nil}
 use Rattle.lab_base.specs.Names.{is_name}
 use Rattle.lab_base.specs.Lists.{Has}
-use Rattle.lab_base.specs.declared.rates.Rates.{Rates}
 use Rattle.lab_base.proofs.Members.{Has-append, Has-map, Has-flat_map}
+use Rattle.line_text.specs.Rates.{rates_fields}
 use Rattle.line_text.proofs.PartsAgain.{IsPlain, plain_append, plain_name, plain_number, plain_pair, all_has}
 use Rattle.line_text.proofs.LinesAgain.{IsPrinted}
 use Rattle.line_text.proofs.Plain.{ArePlain, none, more, pairs_plain}
+use Rattle.line_text.proofs.RatesAgain.{rates_plain}
 use Rattle.virt_topo.specs.declared.wiring.Class.{Class}
 use Rattle.virt_topo.specs.declared.wiring.VirtNode.{VirtNode}
 use Rattle.virt_topo.specs.declared.wiring.VirtEnd.{VirtEnd}
 use Rattle.virt_topo.specs.declared.wiring.Segment.{Segment}
 use Rattle.virt_topo.specs.declared.wiring.Pipe.{Pipe}
 use Rattle.virt_topo.specs.declared.wiring.Wiring.{Wiring}
-use Rattle.virt_topo.specs.Soundness.{IsSound, limits_class, limits_node, limits_segment, are_rates, knows_class}
+use Rattle.virt_topo.specs.Soundness.{IsSound, limits_class, limits_node, limits_segment, knows_class}
 use Rattle.virt_topo.proofs.CableLaws.{limits_of, segment_limits}
-use Rattle.top_text.specs.Canonical.{virt_name, asked_name, behind_name, address_text, end_field, rates_fields, class_fields, node_fields, fix_at, fix_lines, link_fields, multiplex_if, multiplex_lines, pipe_fields, wiring_lines}
+use Rattle.top_text.specs.Lines.{pipe_rates}
+use Rattle.top_text.specs.Canonical.{virt_name, asked_name, behind_name, address_text, end_field, class_fields, node_fields, fix_at, fix_lines, link_fields, multiplex_if, multiplex_lines, pipe_fields, wiring_lines}
 use Rattle.top_text.specs.Printable.{named_class, named_asks, named_node, named_place, named_segment, is_address}
 use Rattle.top_text.proofs.SoundTests.{sound_tests}
-use Rattle.top_text.proofs.TopLines.{rate_limits}
+use Rattle.top_text.proofs.TopLines.{rates_within, held}
 use Rattle.top_text.proofs.TopAgain.{IsNamed, node_named_at, asked_named, end_within, pipe_facts}
 
 class : IsPlain (codes "make-vclass")
@@ -64,11 +66,6 @@ address_plain a small =
 end_plain : (name : List ℕ) (address : Option ℕ) → is_name name ≡ true → is_address address ≡ true → IsPlain (name ++ behind_name address)
 end_plain name None named short = subst IsPlain (sym (append-nil name)) (plain_name name named)
 end_plain name (Some a) named short = plain_append name (61 ∷ address_text a) (plain_name name named) (plain_append (61 ∷ []) (address_text a) sign (address_plain a (ltb-true a 4294967296 short)))
-
-rates_plain : (r : Rates) (rest : List (List ℕ)) → are_rates r ≡ true → ArePlain rest → ArePlain (rates_fields r ++ rest)
-rates_plain r rest h others =
-    let l = rate_limits r h in
-    more _ _ (plain_number r.kbps (omega (arith, l.slow))) (more _ _ (plain_number r.micros (omega (arith, l.late))) (more _ _ (plain_number r.ppm (omega (arith, l.lost))) others))
 
 module _ (w : Wiring) (sound : IsSound w) (named : IsNamed w) where
   class_printed : (c : Class) → Has w.classes c → IsPrinted (class_fields c)
@@ -118,7 +115,7 @@ module _ (w : Wiring) (sound : IsSound w) (named : IsNamed w) where
       record {
         kept = refl;
         plain = (more _ _ pipe (more _ _ (plain_name (virt_name w p.node) (node_named_at w sound named p.node facts.node)) (more _ _ (plain_number p.from (omega (arith, facts.from))) (more _ _ (plain_number p.to (omega (arith, facts.to)))
-            (rates_plain p.there (rates_fields p.back) facts.there (rates_plain p.back [] facts.back none)))))).each;
+            (rates_plain pipe_rates p.there (rates_fields p.back) held (rates_within p.there facts.there) (rates_plain pipe_rates p.back [] held (rates_within p.back facts.back) none)))))).each;
       }
 
   pub wiring_printed : (line : List (List ℕ)) → Has (wiring_lines w) line → IsPrinted line

@@ -11,6 +11,7 @@ use Rattle.lab_base.specs.Lists.{Has}
 use Rattle.lab_base.specs.declared.rates.Rates.{Rates}
 use Rattle.lab_base.proofs.Names.{name_short}
 use Rattle.line_text.specs.Printing.{line_text, text_of, with_number}
+use Rattle.line_text.specs.Rates.{rates_fields}
 use Rattle.line_text.proofs.PartsAgain.{all_has}
 use Rattle.line_text.proofs.Widths.{width, width-append, line_length, lines_length, pairs_width, pair_length}
 use Rattle.virt_topo.specs.declared.wiring.Class.{Class}
@@ -22,10 +23,10 @@ use Rattle.virt_topo.specs.declared.wiring.Wiring.{Wiring}
 use Rattle.virt_topo.specs.Ends.{end_nodes}
 use Rattle.virt_topo.specs.Soundness.{IsSound, limits_class, limits_node, limits_segment, are_rates, knows_class}
 use Rattle.virt_topo.proofs.CableLaws.{limits_of, segment_limits}
-use Rattle.top_text.specs.Canonical.{virt_name, asked_name, behind_name, address_text, end_field, rates_fields, class_fields, node_fields, fix_at, fix_lines, link_fields, multiplex_if, multiplex_lines, pipe_fields, canonical_top}
+use Rattle.top_text.specs.Canonical.{virt_name, asked_name, behind_name, address_text, end_field, class_fields, node_fields, fix_at, fix_lines, link_fields, multiplex_if, multiplex_lines, pipe_fields, canonical_top}
 use Rattle.top_text.specs.Printable.{named_class, named_asks, named_node, named_place, named_segment, is_address, is_printable}
 use Rattle.top_text.proofs.SoundTests.{sound_tests}
-use Rattle.top_text.proofs.TopLines.{rate_limits}
+use Rattle.top_text.proofs.TopLines.{rates_within}
 use Rattle.top_text.proofs.TopAgain.{IsNamed, named_of, node_named_at, asked_named, end_within, pipe_facts}
 use Rattle.top_text.proofs.PipeCount.{few_pipes}
 
@@ -66,7 +67,7 @@ ends_width w (e ∷ ends) each =
 rates_width : (r : Rates) → are_rates r ≡ true → width (rates_fields r) ≤ 28
 unfolding width
 rates_width r h =
-    let l = rate_limits r h in
+    let l = rates_within r h in
     let a = digits r.kbps 10 (omega arith) (omega (arith, l.slow)) (omega (arith, l.slow)) in
     let b = digits r.micros 8 (omega arith) (omega (arith, l.late)) (omega (arith, l.late)) in
     let c = digits r.ppm 7 (omega arith) (omega (arith, l.lost)) (omega (arith, l.lost)) in

@@ -1,8 +1,8 @@
 -- The canonical text of a wiring.
 use Rattle.std.specs.Prelude.{ℕ, Bool, ◌/◌, ◌%◌, List, [], ◌∷◌, ◌++◌, map, codes, decimal, slice_index_or, Option, Some, None, if◌then◌else◌}
 use Rattle.std.specs.List.{flat_map}
-use Rattle.lab_base.specs.declared.rates.Rates.{Rates}
 use Rattle.line_text.specs.Printing.{text_of, with_number}
+use Rattle.line_text.specs.Rates.{rates_fields}
 use Rattle.virt_topo.specs.declared.wiring.Asks.{Asks}
 use Rattle.virt_topo.specs.declared.wiring.Asks.TheVariants.{Plain, Class as InClass}
 use Rattle.virt_topo.specs.declared.wiring.Class.{Class}
@@ -32,9 +32,6 @@ end_field w end = virt_name w end.node ++ behind_name end.address
 abbrev pub asked_name : Wiring → Asks → List ℕ
 asked_name w (Plain type) = type
 asked_name w (InClass class) = class_name w class
-
-abbrev pub rates_fields : Rates → List (List ℕ)
-rates_fields rates = decimal rates.kbps ∷ decimal rates.micros ∷ decimal rates.ppm ∷ []
 
 abbrev pub class_fields : Class → List (List ℕ)
 class_fields class = codes "make-vclass" ∷ class.name ∷ decimal class.weight ∷ class.types

@@ -8,6 +8,8 @@ use Rattle.lab_base.specs.declared.rates.Rates.{Rates}
 use Rattle.line_text.specs.Addresses.{address_of}
 use Rattle.line_text.specs.Fields.{field_at, list_behind}
 use Rattle.line_text.specs.Pairs.{has_byte, pair_at, numbered}
+use Rattle.line_text.specs.Rates.{both_rates_at}
+use Rattle.line_text.specs.declared.rates.RateLimits.{RateLimits}
 use Rattle.virt_topo.specs.declared.wiring.Class.{Class}
 
 -- PARTS OF LINES
@@ -34,12 +36,9 @@ end_of field = if has_byte 61 field then end_parts (pair_at 61 field) else bare 
 abbrev pub weight_of : List ℕ → Result (List ℕ × ℕ) Kind
 weight_of field = numbered 0 1000000 field
 
-abbrev pub as_rates : Result (ℕ × (ℕ × ℕ)) Kind → Result Rates Kind
-as_rates (Ok (kbps, (micros, ppm))) = Ok (record { kbps = kbps; micros = micros; ppm = ppm })
-as_rates (Err kind) = Err kind
-
-abbrev pub rates_of : List ℕ → List ℕ → List ℕ → Result Rates Kind
-rates_of kbps micros ppm = as_rates (both_of (number_from 1 1000000000 kbps) (both_of (number_from 0 10000000 micros) (number_from 0 1000000 ppm)))
+-- the limits of a pipe's rates
+abbrev pub pipe_rates : RateLimits
+pipe_rates = record { least_kbps = 1; most_kbps = 1000000000; most_micros = 10000000; most_ppm = 1000000 }
 
 -- LINES
 
@@ -80,7 +79,7 @@ abbrev pub pipe_line : List (List ℕ) → Result PipeRead Kind
 pipe_line fields =
     if length fields == 9
     then both_of (name_of (field_at fields 0)) (both_of (both_of (number_from 0 65535 (field_at fields 1)) (number_from 0 65535 (field_at fields 2)))
-    (both_of (rates_of (field_at fields 3) (field_at fields 4) (field_at fields 5)) (rates_of (field_at fields 6) (field_at fields 7) (field_at fields 8))))
+    (both_rates_at pipe_rates fields 3))
     else Err kinds.Fields
 
 -- `multiplex SEGMENT`

@@ -1,21 +1,29 @@
 // The lines of a top text, by their fields behind the keyword.
-ghost use Rattle.std.specs.Prelude.{◌≡◌, ◌<◌, ◌+◌, [], Ok, IfOk, option_map};
+ghost use Rattle.std.specs.Prelude.{◌≡◌, [], Ok, IfOk, option_map};
 ghost use Rattle.lab_base.specs.Texts.{views};
 ghost use Rattle.lab_base.specs.Parts.{all_of, name_of, number_from};
 ghost use Rattle.lab_base.specs.Kinds.{both_of};
 ghost use Rattle.line_text.specs.Fields.{field_at, list_behind};
-ghost use Rattle.top_text.specs.Lines.{bare, addressed, end_parts, end_of, weight_of, as_rates, rates_of};
+ghost use Rattle.top_text.specs.Lines.{bare, addressed, end_parts, end_of, weight_of};
 ghost use Rattle.top_text.specs.Lines.{as_class, class_line, node_line, fix_line, link_line, pipe_line, multiplex_line};
 
 use lab_base::{
     Items, Kind, ListRead, Memory, Name, Parts, Rates, add_read, both, name_in, number_in,
 };
 use line_text::{
-    address_in, counts, field_at, fields_behind, has_byte, name_at, numbered_weight, pair_in,
-    short_in, weight_in,
+    RateLimits, address_in, both_rates_at, counts, field_at, fields_behind, has_byte, name_at,
+    numbered_weight, pair_in, short_in, weight_in,
 };
 use std::alloc::Global;
 use virt_topo::{Class, MAX_KBPS, MAX_MICROS, MAX_PPM, MAX_SEGMENT_ENDS, MAX_WEIGHT};
+
+/// The limits of a pipe's rates.
+const PIPE_RATES: RateLimits = RateLimits {
+    least_kbps: 1,
+    most_kbps: MAX_KBPS,
+    most_micros: MAX_MICROS,
+    most_ppm: MAX_PPM,
+};
 
 /// The name of an end's virtual node, and its address.
 pub(crate) type End = (Name, Option<u32>);
@@ -200,26 +208,6 @@ pub(crate) fn link_in(alloc: Global, fields: &[&[u8]]) -> Result<Result<LinkRead
     Ok(both(name, behind))
 }
 
-fn as_rates(read: Result<(u64, (u32, u32)), Kind>) -> Result<Rates, Kind>
-    ensures { result ≡ as_rates read }
-{
-    match read {
-        Ok((kbps, (micros, ppm))) => Ok(Rates { kbps, micros, ppm }),
-        Err(kind) => Err(kind),
-    }
-}
-
-fn rates_in(kbps: &[u8], micros: &[u8], ppm: &[u8]) -> Result<Rates, Kind>
-    ensures { result ≡ rates_of kbps.now micros.now ppm.now }
-{
-    let delay = weight_in(micros, MAX_MICROS);
-    let loss = weight_in(ppm, MAX_PPM);
-    let behind = both(delay, loss);
-    let speed = number_in(kbps, 1, MAX_KBPS);
-    let whole = both(speed, behind);
-    as_rates(whole)
-}
-
 /// A pipe's virtual node, its two ends there, and its rates there and back.
 pub(crate) type PipeRead = (Name, ((u16, u16), (Rates, Rates)));
 
@@ -237,17 +225,6 @@ fn pipe_ends_at(fields: &[&[u8]]) -> Result<(u16, u16), Kind>
     pipe_ends_in(from, to)
 }
 
-/// The rates of a pipe in one direction, from three fields.
-fn rates_at(fields: &[&[u8]], n: usize) -> Result<Rates, Kind>
-    requires { n < 10 }
-    ensures { result ≡ rates_of (field_at (views fields.now) n) (field_at (views fields.now) (n + 1)) (field_at (views fields.now) (n + 2)) }
-{
-    let kbps = field_at(fields, n);
-    let micros = field_at(fields, n + 1);
-    let ppm = field_at(fields, n + 2);
-    rates_in(kbps, micros, ppm)
-}
-
 /// Reads the fields of a `pipe` line, behind its keyword.
 pub(crate) fn pipe_in(fields: &[&[u8]]) -> Result<PipeRead, Kind>
     ensures { result ≡ pipe_line (views fields.now) }
@@ -256,9 +233,7 @@ pub(crate) fn pipe_in(fields: &[&[u8]]) -> Result<PipeRead, Kind>
         return Err(Kind::Fields);
     }
     let ends = pipe_ends_at(fields);
-    let there = rates_at(fields, 3);
-    let back = rates_at(fields, 6);
-    let rates = both(there, back);
+    let rates = both_rates_at(PIPE_RATES, fields, 3);
     let behind = both(ends, rates);
     let name = name_at(fields, 0);
     both(name, behind)

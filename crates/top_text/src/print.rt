@@ -5,11 +5,11 @@ ghost use Rattle.line_text.specs.Printing.{line_text, spaced, text_of, with_numb
 ghost use Rattle.virt_topo.specs.Soundness.{IsSound};
 ghost use Rattle.top_text.specs.Adding.{wiring_of_text};
 ghost use Rattle.top_text.specs.Printable.{named_asks, named_class, named_node, named_place, named_segment, is_address, is_printable};
-ghost use Rattle.top_text.specs.Canonical.{virt_name, class_name, address_text, behind_name, end_field, asked_name, rates_fields};
+ghost use Rattle.top_text.specs.Canonical.{virt_name, class_name, address_text, behind_name, end_field, asked_name};
 ghost use Rattle.top_text.specs.Canonical.{class_fields, node_fields, fix_at, fix_lines, link_fields, multiplex_lines, pipe_fields, canonical_top};
 
-use lab_base::{MAX_PAYLOAD_TEXT, Memory, Name, Rates, Text};
-use line_text::{push_field, push_numbered};
+use lab_base::{MAX_PAYLOAD_TEXT, Memory, Name, Text};
+use line_text::{push_both_rates, push_count, push_field, push_numbered, push_word};
 use std::alloc::Global;
 use virt_topo::{Asks, Class, Pipe, Segment, VirtEnd, VirtNode, Wiring};
 
@@ -40,22 +40,6 @@ fn asked_name<'a>(wiring: &'a Wiring, asks: &'a Asks) -> &'a [u8]
         Asks::Plain(kind) => kind.bytes(),
         Asks::Class(class) => class_name(wiring, *class),
     }
-}
-
-/// A space and a word.
-fn push_word(text: &mut Text, word: &[u8]) -> Result<(), Memory>
-    ensures { OnOk result (text.new ≡ text.old ++ 32 ∷ word.now) }
-{
-    text.push(b' ')?;
-    text.push_bytes(word)
-}
-
-/// A space and a number.
-fn push_count(text: &mut Text, number: u64) -> Result<(), Memory>
-    ensures { OnOk result (text.new ≡ text.old ++ 32 ∷ decimal number) }
-{
-    text.push(b' ')?;
-    text.push_number(number)
 }
 
 fn push_names(text: &mut Text, names: &[Name]) -> Result<(), Memory>
@@ -241,21 +225,6 @@ fn push_marks(text: &mut Text, segments: &[Segment]) -> Result<(), Memory>
         push_mark(text, segment)?;
     }
     Ok(())
-}
-
-fn push_rates(text: &mut Text, rates: Rates) -> Result<(), Memory>
-    ensures { OnOk result (text.new ≡ text.old ++ spaced (rates_fields rates)) }
-{
-    push_count(text, rates.kbps)?;
-    push_count(text, u64::from(rates.micros))?;
-    push_count(text, u64::from(rates.ppm))
-}
-
-fn push_both_rates(text: &mut Text, there: Rates, back: Rates) -> Result<(), Memory>
-    ensures { OnOk result (text.new ≡ text.old ++ spaced (rates_fields there ++ rates_fields back)) }
-{
-    push_rates(text, there)?;
-    push_rates(text, back)
 }
 
 fn push_pipe(text: &mut Text, wiring: &Wiring, pipe: &Pipe) -> Result<(), Memory>

@@ -1,6 +1,6 @@
 -- The tests of a wiring with one class, virtual node, segment or pipe more.
-use Rattle.std.specs.Prelude.{nat_le, nat_lt, nat_eq}
-use Rattle.std.proofs.Common.{◌≡◌, ℕ, ◌+◌, ◌<◌, ◌≤◌, Bool, true, false, not, ◌&&◌, ◌||◌, eqb, List, [], ◌∷◌, ◌++◌, length, map, refl, sym, ap, ◌∙◌, arith, length-append}
+use Rattle.std.specs.Prelude.{nat_le, nat_lt}
+use Rattle.std.proofs.Common.{◌≡◌, ℕ, ◌+◌, Bool, true, false, not, ◌&&◌, ◌||◌, eqb, List, [], ◌∷◌, ◌++◌, length, refl, ap, ◌∙◌, arith, length-append}
 use Rattle.std.specs.List.{list_all, list_any}
 use Rattle.std.proofs.lemmas.Bool.{and_parts, and_from, or_parts}
 use Rattle.std.proofs.lemmas.Bool.Decides.{nat_tests}
@@ -21,11 +21,11 @@ use Rattle.virt_topo.specs.declared.wiring.VirtEnd.{VirtEnd}
 use Rattle.virt_topo.specs.declared.wiring.Segment.{Segment}
 use Rattle.virt_topo.specs.declared.wiring.Pipe.{Pipe}
 use Rattle.virt_topo.specs.declared.wiring.Wiring.{Wiring}
-use Rattle.virt_topo.specs.Ends.{end_nodes, end_number, end_owners}
+use Rattle.virt_topo.specs.Ends.{end_nodes}
 use Rattle.virt_topo.specs.Repeats.{stands_again}
 use Rattle.virt_topo.specs.Soundness.{limits_class, limits_node, limits_segment, limits_pipe, keeps_limits, knows_class, knows_node, knows_pipe, is_end, knows_all, same_address, all_ends, asks_class_name, has_twice, has_same, is_bad_pipe, shares_end, has_bad_pipe}
 use Rattle.virt_topo.specs.Topos.{asks_type}
-use Rattle.virt_topo.proofs.EndLaws.{nodes_of, owners_of}
+use Rattle.virt_topo.proofs.EndLaws.{nodes_of}
 use Rattle.virt_topo.proofs.MoreEnds.{nodes_more, owner_kept, flag_kept, end_kept}
 
 -- ONE ELEMENT MORE

@@ -1,4 +1,4 @@
-use Rattle.std.proofs.Common.{◌≤◌, length, ap, arith}
+use Rattle.std.proofs.Common.{length, ap, arith}
 use Rattle.virt_topo.proofs.CableLaws.{sound_limits}
 use Rattle.assign_core.proofs.first.first_fit.Goals as goal
 

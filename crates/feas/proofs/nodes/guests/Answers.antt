@@ -1,4 +1,4 @@
-use Rattle.std.proofs.Common.{◌≡◌, ◌+◌, ◌++◌, List, drop, arith, append_assoc, ap, sym, ◌∙◌}
+use Rattle.std.proofs.Common.{◌+◌, ◌++◌, List, drop, arith, append_assoc, ap, sym, ◌∙◌}
 use Rattle.lab_model.specs.Rules.{Guest, guests}
 use Rattle.std.proofs.lemmas.List.{drop_all, append-nil}
 use Rattle.lab_model.specs.Shapes.{Place}

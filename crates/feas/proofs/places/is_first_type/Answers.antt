@@ -1,4 +1,4 @@
-use Rattle.std.proofs.Common.{◌≡◌, ◌+◌, Bool, List, false, ℕ, cond, drop, get_or, sym, ap, arith, ◌∙◌}
+use Rattle.std.proofs.Common.{◌≡◌, ◌+◌, Bool, false, cond, drop, get_or, sym, ap, arith, ◌∙◌}
 use Rattle.virt_topo.specs.declared.wiring.VirtNode.{VirtNode}
 use Rattle.virt_topo.specs.Wirings.{no_virt}
 use Rattle.lab_model.specs.Rules.{is_member, first_type, no_place}

@@ -1,4 +1,4 @@
-use Rattle.std.proofs.Common.{◌≡◌, ◌<◌, ◌≤◌, ℕ, List, length, ap, sym, arith, below_more, ◌∙◌}
+use Rattle.std.proofs.Common.{List, length, ap, sym, arith, below_more, ◌∙◌}
 use Rattle.virt_topo.specs.declared.wiring.Segment.{Segment}
 use Rattle.virt_topo.specs.Ends.{end_nodes}
 use Rattle.virt_topo.specs.Loads.{loads_from}

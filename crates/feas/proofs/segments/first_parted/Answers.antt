@@ -1,4 +1,4 @@
-use Rattle.std.proofs.Common.{◌≡◌, ◌<◌, ℕ, List, All, length, drop, ap, sym, subst, arith, below_more, ◌∙◌}
+use Rattle.std.proofs.Common.{◌<◌, List, All, length, drop, ap, sym, subst, arith, below_more, ◌∙◌}
 use Rattle.std.proofs.lemmas.List.Elements.{All-drop}
 use Rattle.lab_base.specs.declared.ids.IfaceId.{IfaceId}
 use Rattle.virt_topo.specs.declared.wiring.Segment.{Segment}

@@ -1,4 +1,4 @@
-use Rattle.std.proofs.Common.{Bool, List, ℕ, sym, ◌∙◌, arith}
+use Rattle.std.proofs.Common.{Bool, sym, ◌∙◌, arith}
 use Rattle.lab_base.proofs.Lists.{length_past}
 use Rattle.virt_topo.specs.declared.experiment.Experiment.{Experiment}
 use Rattle.lab_model.specs.Claims.{claims_it}

@@ -1,5 +1,5 @@
 use Rattle.std.proofs.Common.{◌≡◌, ◌++◌, take}
-use Rattle.std.specs.List.{flat_map, range_with_len}
+use Rattle.std.specs.List.{flat_map}
 use Rattle.lab_view.specs.Lines.{trunk_line}
 use Rattle.lab_view.proofs.lines.push_trunks.Given as goal
 

@@ -1,6 +1,5 @@
 use Rattle.std.proofs.Common.{◌≡◌, ◌≤◌, ◌<◌, ℕ, List, [], length, map, drop, get_or, All}
 use Rattle.lab_model.specs.Rules.{Laid}
-use Rattle.node_maps.specs.declared.ends.End.{End}
 use Rattle.node_maps.specs.Indexed.{Marks}
 use Rattle.node_maps.specs.NodeMaps.{laid_from}
 use Rattle.map_board.specs.Nodes.{no_end}

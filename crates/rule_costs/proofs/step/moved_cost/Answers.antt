@@ -1,4 +1,4 @@
-use Rattle.std.proofs.Common.{◌≡◌, ℕ, arith}
+use Rattle.std.proofs.Common.{arith}
 use Rattle.cost_rule.proofs.PartLaws.{uses_small}
 use Rattle.rule_costs.proofs.CostLaws.{trunk_cost, pack_cost}
 use Rattle.rule_costs.proofs.step.moved_cost.Goals as goal

@@ -8,6 +8,5 @@ use Rattle.top_text.proofs.lines.pipe_in.Goals as goal
 pub returns : goal.returns
 returns c =
     let nine : eqb (length (views c.args.fields.now)) 9 ≡ true = eq-eqb _ _ (length-views c.args.fields.now ∙ c.if-fields-ne9.false) in
-    let rates = c.both-rates.ensures ∙ (λ i. both_of (c.rates_at-there.ensures i) (c.rates_at-back.ensures i)) in
-    let behind = c.both-behind.ensures ∙ (λ i. both_of (c.pipe_ends_at-ends.ensures i) (rates i)) in
+    let behind = c.both-behind.ensures ∙ (λ i. both_of (c.pipe_ends_at-ends.ensures i) (c.both_rates_at-rates.ensures i)) in
     rw nine (c.both.ensures ∙ (λ i. both_of (c.name_at-name.ensures i) (behind i)))

@@ -1,4 +1,4 @@
-use Rattle.std.proofs.Common.{◌≡◌, ◌<◌, arith, sym, ◌∙◌}
+use Rattle.std.proofs.Common.{arith}
 use Rattle.virt_topo.proofs.LoadLaws.{loads_step, loads_end}
 use Rattle.virt_topo.proofs.loads.loads_of.Goals as goal
 

@@ -1,4 +1,4 @@
-use Rattle.std.proofs.Common.{◌≡◌, ◌∷◌, ◌++◌, [], ℕ, List, ap, append_assoc, ◌∙◌}
+use Rattle.std.proofs.Common.{◌∷◌, ◌++◌, [], List, ap, append_assoc, ◌∙◌}
 use Rattle.std.specs.Prelude.{replicate}
 use Rattle.virt_topo.specs.declared.loads.Load.{Load}
 use Rattle.virt_topo.specs.Loads.{load_of}

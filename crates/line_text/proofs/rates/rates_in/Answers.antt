@@ -1,7 +1,7 @@
 use Rattle.std.proofs.Common.{◌∙◌}
 use Rattle.lab_base.specs.Kinds.{both_of}
-use Rattle.top_text.specs.Lines.{as_rates}
-use Rattle.top_text.proofs.lines.rates_in.Goals as goal
+use Rattle.line_text.specs.Rates.{as_rates}
+use Rattle.line_text.proofs.rates.rates_in.Goals as goal
 
 pub returns : goal.returns
 returns c =
