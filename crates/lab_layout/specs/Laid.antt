@@ -1,6 +1,7 @@
 -- Where things stand in the picture of a lab.
-use Rattle.std.specs.Prelude.{◌≡◌, ◌≤◌, ◌+◌, ◌⊎◌, ℕ, List, length, All, AllPairs, Option, Some, None, ⊤}
+use Rattle.std.specs.Prelude.{◌≡◌, ◌≤◌, ◌+◌, ◌⊎◌, ℕ, List, length, All, AllPairs, Option, Some, None, is_some, ⊤}
 use Rattle.lab_view.specs.declared.view.View.{View}
+use Rattle.lab_view.specs.Lines.{has_lone}
 use Rattle.lab_layout.specs.declared.limits.TheConstants.{LEAST_WIDE, LEAST_HIGH, MAX_CELLS}
 use Rattle.lab_picture.specs.declared.geometry.Geometry.{Geometry}
 use Rattle.lab_picture.specs.declared.geometry.Place.{Place}
@@ -8,13 +9,15 @@ use Rattle.lab_picture.specs.declared.geometry.Point.{Point}
 use Rattle.lab_picture.specs.declared.geometry.Card.{Card}
 use Rattle.lab_picture.specs.declared.geometry.Echo.{Echo}
 
--- EACH THING OF THE LAB HAS ONE PLACE, in the order of the lab; of VLAN ids there is one more, where the strip ends
+-- EACH THING OF THE LAB HAS ONE PLACE, in the order of the lab; of VLAN ids there is one more, where the strip ends. The heading of machines
+-- without an interface has one exactly where there are such machines
 pub record HasPlaces (v : View) (g : Geometry) : Type 0 where
   pub cards : length g.cards ≡ length v.switches
   pub echoes : length g.echoes ≡ length v.switches
   pub lines : length g.lines ≡ length v.trunks
   pub labels : length g.labels ≡ length v.trunks
   pub cells : length g.cells ≡ length v.machines
+  pub lone : is_some g.lone ≡ has_lone v
   pub marks : length g.marks ≡ length v.owners + 1
   pub entries : length g.entries ≡ length v.experiments
 

@@ -1,5 +1,5 @@
 // Machines that don't overlap.
-ghost use Rattle.std.specs.Prelude.{◌≡◌, ◌≤◌, ◌+◌, length, All, AllPairs, IsTrue, IfOk};
+ghost use Rattle.std.specs.Prelude.{◌≡◌, ◌≤◌, ◌+◌, ◌⊎◌, ◌↔◌, length, All, AllPairs, IsTrue, IfOk};
 ghost use Rattle.lab_layout.specs.Laid.{IsApart, HasRoom, AreApart};
 
 use crate::limits::{LEAST_HIGH, LEAST_WIDE, MAX_CELLS};
@@ -9,37 +9,37 @@ use std::alloc::Global;
 
 /// Whether an edge ends where another begins, or before.
 fn is_before(start: u32, size: u32, next: u32) -> bool
-    ensures { IsTrue result → start + size ≤ next }
+    ensures { IsTrue result ↔ (start + size ≤ next) }
 {
     u64::from(start) + u64::from(size) <= u64::from(next)
 }
 
 fn is_beside(one: Place, other: Place) -> bool
-    ensures { IsTrue result → IsApart one other }
+    ensures { IsTrue result ↔ ((one.x + one.wide ≤ other.x) ⊎ (other.x + other.wide ≤ one.x)) }
 {
     is_before(one.x, one.wide, other.x) || is_before(other.x, other.wide, one.x)
 }
 
 fn is_above(one: Place, other: Place) -> bool
-    ensures { IsTrue result → IsApart one other }
+    ensures { IsTrue result ↔ ((one.y + one.high ≤ other.y) ⊎ (other.y + other.high ≤ one.y)) }
 {
     is_before(one.y, one.high, other.y) || is_before(other.y, other.high, one.y)
 }
 
 fn is_apart(one: Place, other: Place) -> bool
-    ensures { IsTrue result → IsApart one other }
+    ensures { IsTrue result ↔ IsApart one other }
 {
     is_beside(one, other) || is_above(one, other)
 }
 
 fn has_room(place: Place) -> bool
-    ensures { IsTrue result → HasRoom place }
+    ensures { IsTrue result ↔ HasRoom place }
 {
     place.wide >= LEAST_WIDE && place.high >= LEAST_HIGH
 }
 
 fn is_apart_from(one: Place, others: &[Place]) -> bool
-    ensures { IsTrue result → All (IsApart one) others.now }
+    ensures { IsTrue result ↔ All (IsApart one) others.now }
 {
     for other in others {
         if !is_apart(one, *other) {
@@ -50,7 +50,7 @@ fn is_apart_from(one: Place, others: &[Place]) -> bool
 }
 
 fn all_have_room(places: &[Place]) -> bool
-    ensures { IsTrue result → All HasRoom places.now }
+    ensures { IsTrue result ↔ All HasRoom places.now }
 {
     for place in places {
         if !has_room(*place) {
@@ -61,7 +61,7 @@ fn all_have_room(places: &[Place]) -> bool
 }
 
 fn all_are_apart(places: &[Place]) -> bool
-    ensures { IsTrue result → AllPairs IsApart places.now }
+    ensures { IsTrue result ↔ AllPairs IsApart places.now }
 {
     for (number, place) in places.iter().enumerate() {
         if !is_apart_from(*place, &places[number + 1..]) {
@@ -90,7 +90,7 @@ fn column(alloc: Global, count: usize) -> Result<Items<Place>, Memory>
 }
 
 fn are_apart(places: &[Place]) -> bool
-    ensures { IsTrue result → AreApart places.now }
+    ensures { IsTrue result ↔ AreApart places.now }
 {
     all_have_room(places) && all_are_apart(places)
 }
@@ -99,6 +99,7 @@ fn are_apart(places: &[Place]) -> bool
 pub(crate) fn set_apart(alloc: Global, cells: Items<Place>) -> Result<Items<Place>, Memory>
     ensures len { IfOk result (λ apart. length apart ≡ length cells) }
     ensures apart { IfOk result (λ apart. length cells ≤ MAX_CELLS → AreApart apart) }
+    ensures kept { IfOk result (λ apart. AreApart cells → apart ≡ cells) }
 {
     if cells.len() > MAX_CELLS || are_apart(cells.as_slice()) {
         return Ok(cells);

@@ -1,5 +1,6 @@
 // Where everything stands in the picture of a lab.
-ghost use Rattle.std.specs.Prelude.{◌≡◌, length, IfOk};
+ghost use Rattle.std.specs.Prelude.{◌≡◌, length, is_some, IfOk};
+ghost use Rattle.lab_view.specs.Lines.{has_lone};
 ghost use Rattle.lab_layout.specs.Laid.{IsLaid};
 
 use crate::apart::set_apart;
@@ -258,7 +259,10 @@ fn echoes_of(alloc: Global, layout: &Layout) -> Result<Items<Option<Echo>>, Memo
     Ok(echoes)
 }
 
-fn lone_of(plan: Plan<'_>, layout: &Layout) -> Option<Point> {
+/// Where the heading of machines without an interface stands.
+fn lone_of(plan: Plan<'_>, layout: &Layout) -> Option<Point>
+    ensures { is_some result ≡ has_lone plan.entry.view.now }
+{
     if plan.rows.lone.is_empty() {
         return None;
     }

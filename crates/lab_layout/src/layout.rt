@@ -1,5 +1,6 @@
 // Where everything stands.
-ghost use Rattle.std.specs.Prelude.{◌≡◌, length, IfOk, OnOk, vec_len};
+ghost use Rattle.std.specs.Prelude.{◌≡◌, nat_lt, length, IfOk, OnOk, vec_len};
+ghost use Rattle.lab_view.specs.Lines.{has_lone};
 
 use crate::columns::{BESIDE, Columns, MARGIN, PORT, columns_of_lab};
 use crate::limits::{LEAST_HIGH, LEAST_WIDE};
@@ -74,6 +75,7 @@ pub(crate) struct Plan<'a> {
     pub(crate) view: &'a View,
     pub(crate) forest: &'a Forest,
     pub(crate) rows: &'a Rows,
+    pub(crate) ghost lone: { nat_lt 0 (length rows.now.lone.items) ≡ has_lone view.now },
 }
 
 /// The width of a machine: its name, at least 9 letters, and the names of experiments up to 12 letters.

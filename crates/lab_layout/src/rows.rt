@@ -1,4 +1,8 @@
 // Which machines stand under which switch.
+ghost use Rattle.std.specs.Prelude.{◌≡◌, ◌||◌, nat_lt, length, IfOk, OnOk};
+ghost use Rattle.lab_view.specs.Views.{is_lone};
+ghost use Rattle.lab_view.specs.Lines.{has_lone};
+
 use lab_base::Memory;
 use lab_view::{Machine, View, home_of};
 use std::alloc::Global;
@@ -11,7 +15,9 @@ pub(crate) struct Rows {
 }
 
 impl Rows {
-    pub(crate) fn new(alloc: Global, view: &View) -> Result<Rows, Memory> {
+    pub(crate) fn new(alloc: Global, view: &View) -> Result<Rows, Memory>
+        ensures { IfOk result (λ rows. nat_lt 0 (length rows.lone.items) ≡ has_lone view.now) }
+    {
         let mut of = Vec::new(alloc);
         for _ in view.switches.as_slice().iter() {
             of.push(Vec::new(alloc))?;
@@ -26,7 +32,9 @@ impl Rows {
         Ok(rows)
     }
 
-    fn add(&mut self, number: usize, machine: &Machine) -> Result<(), Memory> {
+    fn add(&mut self, number: usize, machine: &Machine) -> Result<(), Memory>
+        ensures { OnOk result (nat_lt 0 (length self.new.lone.items) ≡ (nat_lt 0 (length self.old.lone.items) || is_lone machine.now)) }
+    {
         match home_of(machine) {
             Some(switch) => {
                 if let Some(row) = self.of.get_mut(switch) {
