@@ -1,23 +1,23 @@
 -- Known moves of a virtual node, before and after a step.
-use Rattle.std.proofs.Common.{◌≡◌, ◌<◌, ◌≤◌, ◌∙◌, inl, inr, ℕ, List, length, map, get_or, Bool, true, false, ap, sym, subst, arith, get_or-set_same, get_or-set_other}
+use Rattle.std.proofs.Common.{◌≡◌, ◌<◌, ◌≤◌, ◌∙◌, inl, inr, ℕ, List, length, replicate, get_or, Bool, true, false, ap, sym, subst, arith, get_or-set_same, get_or-set_other}
 use Rattle.std.proofs.Math.ListN.{set}
 use Rattle.std.proofs.lemmas.Bool.{cases_eq}
-use Rattle.std.proofs.lemmas.List.{length-set, length-map, get_or-map}
+use Rattle.std.proofs.lemmas.List.{length-set, length-replicate, get_or-replicate, get_or-map}
 use Rattle.std.proofs.lemmas.List.Elements.{Contains-get_or}
 use Rattle.virt_topo.specs.declared.mapping.Mapping.{Mapping}
 use Rattle.virt_topo.specs.Soundness.{IsSound}
 use Rattle.virt_topo.specs.Wirings.{virt_at}
 use Rattle.lab_model.specs.Shapes.{Place, IsShaped, node_at, has_name}
 use Rattle.lab_model.specs.Rules.{is_member, no_place, number_of, place_at}
+use Rattle.node_maps.specs.Marked.{marks_of}
 use Rattle.node_maps.proofs.Assembled.{parts_of_map}
 use Rattle.node_maps.proofs.MapLaws.{mapped_is}
 use Rattle.map_board.specs.Seated.{IsFull, guests_at, placed_at}
 use Rattle.map_board.proofs.BoardLaws.{shaped_at}
 use Rattle.map_board.proofs.CrowdLaws.{overfull}
 use Rattle.map_board.proofs.SeatLaws.{guest_more}
-use Rattle.map_anneal.specs.declared.known.Weighed.{Weighed}
 use Rattle.map_anneal.specs.Sought.{Sought, candidates_at, mapped, price, IsNodeMap, IsNoCheaper}
-use Rattle.map_anneal.specs.Weighed.{IsNoLess, IsRow, not_weighed}
+use Rattle.map_anneal.specs.Weighed.{IsNoLess, IsRow}
 use Rattle.map_anneal.specs.Steps.{KeepsTypes, IsStep}
 use Rattle.map_anneal.proofs.StepLaws.{no_less_beside}
 
@@ -43,23 +43,16 @@ full_no_less s m v below p shaped lt node typed full plugs kept =
     absurd (overfull s.lab s.wiring (placed_at m v p) v after within (omega (arith, most, more, on, allowed)) (kept.shared (get_or (set m.places v p) v no_place).0.0 (after.in_nodes v no_place within)))
 
 -- a row with one more note
-pub row_noted : (s : Sought) (m : Mapping) (v number : ℕ) (row : List Weighed) (known : Bool) → IsRow s m v row → number < length row
-    → (known ≡ true → IsNoLess s (price s m) (set m.places v (get_or (candidates_at s v) number no_place))) → IsRow s m v (set row number (record { node = (get_or row number not_weighed).node; known = known }))
+pub row_noted : (s : Sought) (m : Mapping) (v number : ℕ) (row : List Bool) (known : Bool) → IsRow s m v row → number < length row
+    → (known ≡ true → IsNoLess s (price s m) (set m.places v (get_or (candidates_at s v) number no_place))) → IsRow s m v (set row number known)
 row_noted s m v number row known is lt least =
-    let entry : Weighed = record { node = (get_or row number not_weighed).node; known = known } in
-    let count = length-set row number entry in
-    let all = is.one_each in
+    let count = length-set row number known in
     record {
       one_each = count ∙ is.one_each;
-      nodes = λ k k_lt. elim (cases_eq k number) [
-        | inl same ↦ ap (λ (j : ℕ). (get_or (set row number entry) j not_weighed).node.0) same ∙ ap (λ (x : Weighed). x.node.0) (get_or-set_same row number entry not_weighed lt) ∙ is.nodes number lt
-            ∙ ap (λ (j : ℕ). (get_or (candidates_at s v) j no_place).0.0) (sym same)
-        | inr apart ↦ ap (λ (x : Weighed). x.node.0) (get_or-set_other row number k entry not_weighed apart) ∙ is.nodes k (omega (arith, k_lt, count))
-      ];
       known = λ k k_lt yes. elim (cases_eq k number) [
         | inl same ↦ subst (λ (j : ℕ). IsNoLess s (price s m) (set m.places v (get_or (candidates_at s v) j no_place))) (sym same)
-            (least (sym (ap (λ (x : Weighed). x.known) (get_or-set_same row number entry not_weighed lt)) ∙ ap (λ (j : ℕ). (get_or (set row number entry) j not_weighed).known) (sym same) ∙ yes))
-        | inr apart ↦ is.known k (omega (arith, k_lt, count)) (ap (λ (x : Weighed). x.known) (sym (get_or-set_other row number k entry not_weighed apart)) ∙ yes)
+            (least (sym (get_or-set_same row number known false lt) ∙ ap (λ (j : ℕ). get_or (set row number known) j false) (sym same) ∙ yes))
+        | inr apart ↦ is.known k (omega (arith, k_lt, count)) (sym (get_or-set_other row number k known false apart) ∙ yes)
       ];
     }
 
@@ -70,26 +63,26 @@ pub record AreTwo (s : Sought) (x y : Mapping) : Type 0 where
   pub second : IsNodeMap s y
 
 -- what is left of a row: of each note that is left, the node that is taken, the one that is left and the class are untouched
-pub record IsLeft (s : Sought) (x y : Mapping) (v : ℕ) (nodes : List Bool) (old new : List Weighed) : Type 0 where
+pub record IsLeft (s : Sought) (x y : Mapping) (v : ℕ) (nodes : List Bool) (old new : List Bool) : Type 0 where
   pub count : length new ≡ length old
-  pub node : (k : ℕ) → k < length old → (get_or new k not_weighed).node.0 ≡ (get_or old k not_weighed).node.0
-  pub known : (k : ℕ) → k < length old → (get_or new k not_weighed).known ≡ true → (get_or old k not_weighed).known ≡ true
-  pub taken : (k : ℕ) → k < length old → (get_or new k not_weighed).known ≡ true → get_or nodes (get_or old k not_weighed).node.0 true ≡ false
-  pub here : (k : ℕ) → k < length old → (get_or new k not_weighed).known ≡ true → get_or nodes (place_at x v).0.0 true ≡ false
-  pub class : (k : ℕ) → k < length old → (get_or new k not_weighed).known ≡ true → (c : ℕ) → is_member c (virt_at s.wiring v).asks ≡ true → KeepsTypes s.wiring x y c
+  pub known : (k : ℕ) → k < length old → get_or new k false ≡ true → get_or old k false ≡ true
+  pub taken : (k : ℕ) → k < length old → get_or new k false ≡ true → get_or (marks_of nodes (candidates_at s v)) k true ≡ false
+  pub here : (k : ℕ) → k < length old → get_or new k false ≡ true → get_or nodes (place_at x v).0.0 true ≡ false
+  pub class : (k : ℕ) → k < length old → get_or new k false ≡ true → (c : ℕ) → is_member c (virt_at s.wiring v).asks ≡ true → KeepsTypes s.wiring x y c
 
 -- AFTER A STEP what is left of a row is so of the next map
-pub row_after : (s : Sought) (x y : Mapping) (v : ℕ) (nodes : List Bool) (old new : List Weighed) → AreTwo s x y → v < length s.wiring.nodes → IsStep s.lab s.wiring x y nodes → IsRow s x v old → IsLeft s x y v nodes old new → IsRow s y v new
+pub row_after : (s : Sought) (x y : Mapping) (v : ℕ) (nodes : List Bool) (old new : List Bool) → AreTwo s x y → v < length s.wiring.nodes → IsStep s.lab s.wiring x y nodes → IsRow s x v old → IsLeft s x y v nodes old new → IsRow s y v new
 row_after s x y v nodes old new two v_in step is left =
     let all = left.count in
     let each = is.one_each in
     record {
       one_each = left.count ∙ is.one_each;
-      nodes = λ k lt. let k_lt : k < length old = omega (arith, lt, all) in left.node k k_lt ∙ is.nodes k k_lt;
       known = λ k lt yes.
           let k_lt : k < length old = omega (arith, lt, all) in
+          let among : k < length (candidates_at s v) = omega (arith, k_lt, each) in
           let p = get_or (candidates_at s v) k no_place in
-          let off : get_or nodes p.0.0 true ≡ false = ap (λ (n : ℕ). get_or nodes n true) (sym (is.nodes k k_lt)) ∙ left.taken k k_lt yes in
+          let off : get_or nodes p.0.0 true ≡ false =
+          sym (get_or-map (λ (q : Place). get_or nodes q.0.0 true) (candidates_at s v) k no_place true among) ∙ left.taken k k_lt yes in
           no_less_beside s x y step.still v p (record {
             sound = two.sound;
             first = two.first;
@@ -99,17 +92,14 @@ row_after s x y v nodes old new two v_in step is left =
             taken = step.aside p.0.0 off;
             left = step.aside (place_at x v).0.0 (left.here k k_lt yes);
             class = left.class k k_lt yes;
-          }) (Contains-get_or (candidates_at s v) k no_place (omega (arith, k_lt, each))) (is.known k k_lt (left.known k k_lt yes));
+          }) (Contains-get_or (candidates_at s v) k no_place among) (is.known k k_lt (left.known k k_lt yes));
     }
 
 -- a row of which nothing is known
-pub fresh_row : (s : Sought) (m : Mapping) (v : ℕ) (listed : List Place) → listed ≡ candidates_at s v → IsRow s m v (map (λ (p : Place). record { node = p.0; known = false }) listed)
-fresh_row s m v listed is =
-    let of : Place → Weighed = λ p. record { node = p.0; known = false } in
-    let count = length-map listed of in
-    let at = λ (k : ℕ) (lt : k < length listed). get_or-map of listed k no_place not_weighed lt in
+pub fresh_row : (s : Sought) (m : Mapping) (v n : ℕ) → n ≡ length (candidates_at s v) → IsRow s m v (replicate n false)
+fresh_row s m v n is =
+    let count = length-replicate n false in
     record {
-      one_each = count ∙ ap (λ (l : List Place). length l) is;
-      nodes = λ k lt. ap (λ (x : Weighed). x.node.0) (at k (omega (arith, lt, count))) ∙ ap (λ (l : List Place). (get_or l k no_place).0.0) is;
-      known = λ k lt yes. absurd (let both : false ≡ true = sym (ap (λ (x : Weighed). x.known) (at k (omega (arith, lt, count)))) ∙ yes in cc both);
+      one_each = count ∙ is;
+      known = λ k lt yes. absurd (let both : false ≡ true = sym (get_or-replicate n k false false (omega (arith, lt, count))) ∙ yes in cc both);
     }

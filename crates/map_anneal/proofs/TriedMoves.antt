@@ -1,5 +1,5 @@
 -- Known candidates of a virtual node that were tried.
-use Rattle.std.proofs.Common.{◌≡◌, ◌<◌, ◌≤◌, ◌∙◌, inl, inr, ℕ, Bool, List, [], length, get_or, true, cond, Option, Some, None, ap, sym, subst, get_or-set_same, get_or-set_other}
+use Rattle.std.proofs.Common.{◌≡◌, ◌<◌, ◌≤◌, ◌∙◌, inl, inr, ℕ, Bool, List, [], length, get_or, true, false, cond, Option, Some, None, ap, sym, subst, get_or-set_same, get_or-set_other}
 use Rattle.std.proofs.Math.ListN.{set}
 use Rattle.std.proofs.lemmas.Bool.{cases_eq}
 use Rattle.std.proofs.lemmas.List.{length-set, get_or_default}
@@ -9,9 +9,8 @@ use Rattle.lab_model.specs.Shapes.{Place}
 use Rattle.lab_model.specs.Rules.{no_place}
 use Rattle.node_maps.proofs.Assembled.{parts_of_map}
 use Rattle.node_maps.proofs.MapLaws.{mapped_is}
-use Rattle.map_anneal.specs.declared.known.Weighed.{Weighed}
 use Rattle.map_anneal.specs.Sought.{Sought, candidates_at, mapped, moved, price, IsNoCheaper, NoMove}
-use Rattle.map_anneal.specs.Weighed.{AreRows, IsNoLess, IsRow, not_weighed}
+use Rattle.map_anneal.specs.Weighed.{AreRows, IsNoLess, IsRow}
 use Rattle.map_anneal.proofs.RowLaws.{no_cheaper}
 use Rattle.map_anneal.proofs.Undone.{mapping_is}
 
@@ -19,7 +18,7 @@ abbrev pub candidate_at : Sought → ℕ → ℕ → Place
 candidate_at s v number = get_or (candidates_at s v) number no_place
 
 -- a candidate that is known is no cheaper
-pub known_no_cheaper : (s : Sought) (m : Mapping) (v number : ℕ) (row : List Weighed) → IsRow s m v row → number < length row → (get_or row number not_weighed).known ≡ true
+pub known_no_cheaper : (s : Sought) (m : Mapping) (v number : ℕ) (row : List Bool) → IsRow s m v row → number < length row → get_or row number false ≡ true
     → IsNoCheaper s m (moved s m v (candidate_at s v number))
 known_no_cheaper s m v number row is lt noted = no_cheaper s m (set m.places v (candidate_at s v number)) (is.known number lt noted)
 
@@ -42,7 +41,7 @@ no_move s m v all place has =
     subst (λ (p : Place). IsNoCheaper s m (moved s m v p)) (get_or_default (candidates_at s v) has.0 no_place place has.1 ∙ has.2) (all has.0 has.1)
 
 -- rows of which one is another
-pub rows_noted : (s : Sought) (m : Mapping) (v : ℕ) (rows : List (List Weighed)) (new : List Weighed) → AreRows s m rows → v < length rows → IsRow s m v new → AreRows s m (set rows v new)
+pub rows_noted : (s : Sought) (m : Mapping) (v : ℕ) (rows : List (List Bool)) (new : List Bool) → AreRows s m rows → v < length rows → IsRow s m v new → AreRows s m (set rows v new)
 rows_noted s m v rows new are lt is = record {
   one_each = length-set rows v new ∙ are.one_each;
   each = λ u u_lt. elim (cases_eq u v) [

@@ -10,7 +10,6 @@ use Rattle.lab_model.specs.Rules.{keeps_f7, keeps_f8, no_place, place_at}
 use Rattle.lab_model.specs.Feasible.{AllPass}
 use Rattle.node_maps.specs.NodeMaps.{plugs_of}
 use Rattle.node_maps.specs.Moved.{may_share, has_class_type}
-use Rattle.map_anneal.specs.declared.known.Weighed.{Weighed}
 use Rattle.map_anneal.specs.Sought.{Sought, choices, candidates_at, price}
 
 -- what is left to ask of a choice of candidates with the plugs that the rule gives, but F6
@@ -25,17 +24,13 @@ pub record KeepsButRoom (lab : Lab) (free : Free) (w : Wiring) (places : List Pl
 abbrev pub IsNoLess : Sought → ℕ → List Place → Type 0
 IsNoLess s below places = (plugs : List IfaceId) → KeepsButRoom s.lab s.free s.wiring places plugs → below ≤ price s (record { places = places; plugs = plugs })
 
-abbrev pub not_weighed : Weighed
-not_weighed = record { node = record { 0 = 0 }; known = false }
-
--- by candidate of virtual node v its node; where a move there is noted as known, it is no cheaper than the map, though F6 is not asked
-pub record IsRow (s : Sought) (m : Mapping) (v : ℕ) (row : List Weighed) : Type 0 where
+-- by candidate of virtual node v whether a move there is known; noted so, it is no cheaper than the map, though F6 is not asked
+pub record IsRow (s : Sought) (m : Mapping) (v : ℕ) (row : List Bool) : Type 0 where
   pub one_each : length row ≡ length (candidates_at s v)
-  pub nodes : (c : ℕ) → c < length row → (slice_index_or row c not_weighed).node.0 ≡ (slice_index_or (candidates_at s v) c no_place).0.0
-  pub known : (c : ℕ) → c < length row → (slice_index_or row c not_weighed).known ≡ true → IsNoLess s (price s m) (slice_set m.places v (slice_index_or (candidates_at s v) c no_place))
+  pub known : (c : ℕ) → c < length row → slice_index_or row c false ≡ true → IsNoLess s (price s m) (slice_set m.places v (slice_index_or (candidates_at s v) c no_place))
 
 -- a row for each virtual node
-pub record AreRows (s : Sought) (m : Mapping) (rows : List (List Weighed)) : Type 0 where
+pub record AreRows (s : Sought) (m : Mapping) (rows : List (List Bool)) : Type 0 where
   pub one_each : length rows ≡ length (choices s)
   pub each : (v : ℕ) → v < length (choices s) → IsRow s m v (slice_index_or rows v [])
 

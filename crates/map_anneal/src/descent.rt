@@ -9,9 +9,9 @@ ghost use Rattle.map_anneal.specs.Searches.{sought_of, priced_by, IsMoves, IsTri
 ghost use Rattle.map_anneal.specs.Weighed.{ArePairs, AreRows, IsExchangeNoLess, IsPairs, IsRow};
 ghost use Rattle.map_anneal.specs.Noted.{IsKnown};
 
-use crate::known::{Known, Row};
+use crate::known::Known;
 use crate::moves::Moves;
-use crate::pairs::Pairs;
+use crate::notes::Notes;
 use crate::prepared::Prepared;
 use crate::search::{Priced, place_of};
 use crate::tried::Tried;
@@ -30,7 +30,7 @@ fn cheaper_move_of(
     rule: &StepRule,
     at: &mut Tried,
     node: usize,
-    row: &mut Row,
+    row: &mut Notes,
 ) -> Result<bool, Memory>
     requires moves { IsMoves moves.now }
     requires at { IsTried moves.now rule.now.number at.old }
@@ -62,7 +62,7 @@ fn any_cheaper_move(
     moves: &Moves,
     rule: &StepRule,
     at: &mut Tried,
-    rows: &mut Vec<Row>,
+    rows: &mut Vec<Notes>,
 ) -> Result<bool, Memory>
     requires moves { IsMoves moves.now }
     requires at { IsTried moves.now rule.now.number at.old }
@@ -152,7 +152,7 @@ fn cheaper_exchange_of(
     rule: &StepRule,
     at: &mut Tried,
     first: usize,
-    row: &mut Pairs,
+    row: &mut Notes,
 ) -> Result<bool, Memory>
     requires moves { IsMoves moves.now }
     requires at { IsTried moves.now rule.now.number at.old }
@@ -183,7 +183,7 @@ fn any_cheaper_exchange(
     moves: &Moves,
     rule: &StepRule,
     at: &mut Tried,
-    pairs: &mut Vec<Pairs>,
+    pairs: &mut Vec<Notes>,
 ) -> Result<bool, Memory>
     requires moves { IsMoves moves.now }
     requires at { IsTried moves.now rule.now.number at.old }

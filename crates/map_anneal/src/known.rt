@@ -6,89 +6,17 @@ ghost use Rattle.map_anneal.specs.Sought.{IsNodeMap};
 ghost use Rattle.map_anneal.specs.Searches.{sought_of, IsMoves};
 ghost use Rattle.map_anneal.specs.Untouched.{IsTouched, IsUntouched};
 ghost use Rattle.map_anneal.specs.Noted.{IsKnown};
-ghost use Rattle.map_anneal.specs.Weighed.{ArePairs, AreRows, not_weighed};
+ghost use Rattle.map_anneal.specs.Weighed.{ArePairs, AreRows};
+ghost use Rattle.node_maps.specs.Marked.{marks_of};
 
 use crate::moves::Moves;
-use crate::pairs::{Pairs, is_marked_at};
+use crate::notes::Notes;
 use crate::step::{is_marked, touched_classes, touched_nodes};
 use cost_rule::StepRule;
-use lab_base::{Memory, NodeId};
-use node_maps::Place;
+use lab_base::Memory;
+use node_maps::Marked;
 use std::alloc::Global;
-use std::marker::Model;
 use virt_topo::{Asks, Mapping, Wiring};
-
-/// A candidate's node, and whether a move there is known to make no cheaper map, whatever is left of the trunks.
-#[derive(Clone, Copy)]
-pub(crate) struct Weighed {
-    node: NodeId,
-    known: bool,
-}
-
-/// By candidate of a virtual node what is known of a move there.
-#[derive(Drop)]
-pub(crate) struct Row {
-    tries: Vec<Weighed>,
-}
-
-impl Model for Row {
-    ghost use Rattle.std.specs.Prelude.{List};
-    ghost use Rattle.map_anneal.specs.declared.known.Weighed.{Weighed as WeighedSeen};
-
-    ghost Value = { List WeighedSeen };
-
-    ghost view = { λ row. row.tries.items };
-}
-
-impl Row {
-    /// Nothing is known of these candidates.
-    fn of(alloc: Global, listed: &[Place]) -> Result<Row, Memory>
-        ensures { IfOk result (λ row. row ≡ map (λ p. record { node = p.0; known = false }) listed.now) }
-    {
-        let mut tries = Vec::new(alloc);
-        for place in listed {
-            tries.push(Weighed {
-                node: place.0,
-                known: false,
-            })?;
-        }
-        Ok(Row { tries })
-    }
-
-    /// Whether the move to a candidate is known.
-    pub(crate) fn is_known(&self, number: usize) -> bool
-        requires { number < length self.now }
-        ensures { result ≡ (slice_index_or self.now number not_weighed).known }
-    {
-        self.tries[number].known
-    }
-
-    /// Notes whether the move to a candidate is known.
-    pub(crate) fn note(&mut self, number: usize, known: bool)
-        requires { number < length self.old }
-        ensures { self.new ≡ slice_set self.old number (record { node = (slice_index_or self.old number not_weighed).node; known = known }) }
-    {
-        let node = self.tries[number].node;
-        self.tries[number] = Weighed { node, known };
-    }
-
-    /// Forgets what is known of all candidates, or of those on nodes that are marked.
-    fn forget(&mut self, all: bool, nodes: &[bool])
-        ensures one_each { length self.new ≡ length self.old }
-        ensures nodes { (k : ℕ) → k < length self.old → (slice_index_or self.new k not_weighed).node ≡ (slice_index_or self.old k not_weighed).node }
-        ensures known { (k : ℕ) → k < length self.old → (slice_index_or self.new k not_weighed).known ≡ true
-            → (slice_index_or self.old k not_weighed).known ≡ true }
-        ensures unmarked { (k : ℕ) → k < length self.old → (slice_index_or self.new k not_weighed).known ≡ true
-            → slice_index_or nodes.now (slice_index_or self.old k not_weighed).node.0 true ≡ false }
-        ensures some { (k : ℕ) → k < length self.old → (slice_index_or self.new k not_weighed).known ≡ true → all ≡ false }
-    {
-        for number in 0..self.tries.len() {
-            let is = self.tries[number];
-            let gone = all || is_marked(nodes, is.node.0);
-            self.note(number, is.known && !gone);
-        }
-    }
-}
 
 /// Whether the class of a virtual node is marked, if it asks for one.
 fn is_class_marked(wiring: &Wiring, classes: &[bool], virt: usize) -> bool
@@ -121,11 +49,12 @@ fn is_touched(
     is_class_marked(wiring, classes, virt)
 }
 
-/// Nodes and virtual nodes that a step touches.
+/// Nodes and virtual nodes that a step touches, and the candidates on such nodes.
 #[derive(Drop)]
 pub(crate) struct Touched {
     nodes: Vec<bool>,
     virts: Vec<bool>,
+    candidates: Marked,
 }
 
 /// By virtual node whether a step touches its node or its class.
@@ -161,24 +90,33 @@ impl Touched {
         requires moves { IsMoves moves.now }
         requires last { IsNodeMap (sought_of moves.now _rule.now.number) last.now }
         requires next { IsNodeMap (sought_of moves.now _rule.now.number) next.now }
-        ensures { IfOk result (IsTouched moves.now.setting.mapper.lab.now moves.now.setting.mapper.wiring.now last.now next.now) }
+        ensures touched { IfOk result (IsTouched moves.now.setting.mapper.lab.now moves.now.setting.mapper.wiring.now last.now next.now) }
+        ensures candidates { IfOk result (λ touched. touched.candidates ≡ map (marks_of touched.nodes.items) moves.now.candidates.now) }
     {
         let nodes = touched_nodes(alloc, moves, _rule, last, next)?;
         let virts = touched_virts(alloc, moves.setting.mapper.wiring, &nodes, last, next)?;
-        Ok(Touched { nodes, virts })
+        let candidates = moves.candidates.marked(alloc, &nodes)?;
+        Ok(Touched {
+            nodes,
+            virts,
+            candidates,
+        })
     }
 
     /// Whether a virtual node is touched.
     fn has(&self, virt: usize) -> bool
         ensures { result ≡ slice_index_or self.now.virts.items virt true }
     {
-        is_marked_at(&self.virts, virt)
+        match self.virts.get(virt) {
+            Some(mark) => *mark,
+            None => true,
+        }
     }
 }
 
 /// Forgets the moves that a step may have changed.
 fn follow_rows(
-    rows: &mut Vec<Row>,
+    rows: &mut Vec<Notes>,
     _moves: &Moves,
     _rule: &StepRule,
     _last: &Mapping,
@@ -189,18 +127,19 @@ fn follow_rows(
     requires last { IsNodeMap (sought_of _moves.now _rule.now.number) _last.now }
     requires next { IsNodeMap (sought_of _moves.now _rule.now.number) _next.now }
     requires touched { IsTouched _moves.now.setting.mapper.lab.now _moves.now.setting.mapper.wiring.now _last.now _next.now touched.now }
+    requires candidates { touched.now.candidates ≡ map (marks_of touched.now.nodes.items) _moves.now.candidates.now }
     requires rows { AreRows (sought_of _moves.now _rule.now.number) _last.now rows.old.items }
     ensures { AreRows (sought_of _moves.now _rule.now.number) _next.now rows.new.items }
 {
     for virt in 0..rows.len() {
         let all = touched.has(virt);
-        rows[virt].forget(all, &touched.nodes);
+        rows[virt].forget(all, touched.candidates.of(virt));
     }
 }
 
 /// Forgets the exchanges that a step may have changed.
 fn follow_pairs(
-    pairs: &mut Vec<Pairs>,
+    pairs: &mut Vec<Notes>,
     _moves: &Moves,
     _rule: &StepRule,
     _last: &Mapping,
@@ -223,8 +162,8 @@ fn follow_pairs(
 /// By virtual node what is known of its moves, and of its exchanges with later ones.
 #[derive(Drop)]
 pub(crate) struct Known {
-    pub(crate) rows: Vec<Row>,
-    pub(crate) pairs: Vec<Pairs>,
+    pub(crate) rows: Vec<Notes>,
+    pub(crate) pairs: Vec<Notes>,
 }
 
 /// No move is known.
@@ -233,13 +172,13 @@ fn fresh_rows(
     moves: &Moves,
     _rule: &StepRule,
     _start: &Mapping,
-) -> Result<Vec<Row>, Memory>
+) -> Result<Vec<Notes>, Memory>
     requires { IsMoves moves.now }
     ensures { IfOk result (λ rows. AreRows (sought_of moves.now _rule.now.number) _start.now rows.items) }
 {
     let mut rows = Vec::new(alloc);
     for virt in 0..moves.candidates.len() {
-        let row = Row::of(alloc, moves.candidates.of(virt))?;
+        let row = Notes::of(alloc, moves.candidates.of(virt).len())?;
         rows.push(row)?;
     }
     Ok(rows)
@@ -251,14 +190,14 @@ fn fresh_pairs(
     moves: &Moves,
     _rule: &StepRule,
     _start: &Mapping,
-) -> Result<Vec<Pairs>, Memory>
+) -> Result<Vec<Notes>, Memory>
     requires { IsMoves moves.now }
     ensures { IfOk result (λ pairs. ArePairs (sought_of moves.now _rule.now.number) _start.now pairs.items) }
 {
     let count = moves.candidates.len();
     let mut pairs = Vec::new(alloc);
     for _virt in 0..count {
-        let fresh = Pairs::of(alloc, count)?;
+        let fresh = Notes::of(alloc, count)?;
         pairs.push(fresh)?;
     }
     Ok(pairs)

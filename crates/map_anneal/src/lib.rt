@@ -4,7 +4,7 @@
 mod descent;
 mod known;
 mod moves;
-mod pairs;
+mod notes;
 mod prepared;
 mod search;
 mod step;

@@ -2,7 +2,6 @@
 use Rattle.std.specs.Prelude.{◌≡◌, ℕ, ◌<◌, List, [], length, map, All, slice_index_or}
 use Rattle.virt_topo.specs.declared.wiring.VirtNode.{VirtNode}
 use Rattle.virt_topo.specs.Wirings.{no_virt}
-use Rattle.lab_model.specs.Shapes.{Place}
 
 -- both ask for the same, desire the same, and are fixed at the same node, if at one
 pub record AreOfOneKind (u v : VirtNode) : Type 0 where
@@ -19,5 +18,5 @@ pub record AreKinds (nodes : List VirtNode) (n : ℕ) (ones kinds : List ℕ) : 
       → AreOfOneKind (slice_index_or nodes (slice_index_or ones (slice_index_or kinds v 0) 0) no_virt) (slice_index_or nodes v no_virt)
 
 -- the list of each virtual node's kind
-abbrev pub by_kind : List (List Place) → List ℕ → List (List Place)
+abbrev pub by_kind : {X : Type 0} → List (List X) → List ℕ → List (List X)
 by_kind lists kinds = map (λ k. slice_index_or lists k []) kinds

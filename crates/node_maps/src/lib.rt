@@ -8,6 +8,7 @@ mod kinds;
 mod lists;
 mod mapped;
 mod mapper;
+mod marked;
 mod suited;
 
 pub use ends::{End, ends_of};
@@ -17,4 +18,5 @@ pub use kinds::Kinds;
 pub use lists::{Candidates, Place};
 pub use mapped::{copy_places, is_feasible, node_map};
 pub use mapper::{Mapper, has_room};
+pub use marked::Marked;
 pub use suited::candidates;

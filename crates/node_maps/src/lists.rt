@@ -11,9 +11,9 @@ pub type Place = (NodeId, Name);
 #[derive(Drop)]
 pub struct Candidates {
     /// By kind of virtual node.
-    lists: Vec<Items<Place>>,
+    pub(crate) lists: Vec<Items<Place>>,
     /// By virtual node its kind.
-    kinds: Vec<usize>,
+    pub(crate) kinds: Vec<usize>,
 }
 
 impl Model for Candidates {

@@ -1,4 +1,4 @@
-use Rattle.std.proofs.Common.{◌≡◌, ◌<◌, ◌+◌, ◌∙◌, inl, inr, ℕ, Bool, true, false, List, [], length, get_or, sym, subst, arith, get_or-set_same, get_or-set_other}
+use Rattle.std.proofs.Common.{◌≡◌, ◌<◌, ◌+◌, ◌∙◌, inl, inr, ℕ, Bool, true, false, List, [], length, get_or, ap, sym, subst, arith, get_or-set_same, get_or-set_other}
 use Rattle.std.proofs.Math.ListN.{set}
 use Rattle.std.proofs.lemmas.Bool.{cases_eq}
 use Rattle.std.proofs.lemmas.List.{length-set, get_or_default}
@@ -15,6 +15,22 @@ one_more P rows virt new lt done here v less = elim (cases_eq v virt) [
   | inl is ↦ subst (λ (k : ℕ). P k (get_or (set rows virt new) k [])) (sym is) (subst (P virt) (sym (get_or-set_same rows virt new [] lt)) here)
   | inr apart ↦ subst (P v) (sym (get_or-set_other rows virt v new [] apart)) (done v (omega (arith, less, apart)))
 ]
+
+pub forget-requires : goal.forget-requires
+forget-requires g c =
+    let x = c.args._moves.now.setting.mapper in
+    let v = c.loop-virt.virt in
+    let was = c.loop-virt.invariant in
+    let pairs = c.loop-virt.pairs.items in
+    let count = was.count in
+    let each = c.requires.pairs.one_each in
+    let lt : v < length pairs = omega (arith, c.loop-virt-test.true, c.len-virt-end.ensures) in
+    let old = c.index_mut.result.now in
+    let is_old : old ≡ get_or c.args.pairs.now.items v [] = c.index_mut.ensures.value ∙ get_or_default pairs v old [] lt ∙ was.later v (omega arith) in
+    let its : ◌≡◌ {A = ℕ} (length old) (length (get_or c.args.pairs.now.items v [])) = ap length is_old in
+    let own = (c.requires.pairs.each v (omega (arith, lt, count, each))).one_each in
+    let marks = ap length c.deref.ensures.value in
+    omega (arith, its, own, marks, c.requires.touched.one_each, candidates_count x.lab.now x.free.now x.wiring.now)
 
 pub loop-virt-preserved : goal.loop-virt-preserved
 loop-virt-preserved g c =

@@ -1,0 +1,95 @@
+// Candidates on nodes that are marked.
+ghost use Rattle.std.specs.Prelude.{◌≡◌, ◌<◌, [], true, length, map, slice_index_or, IfOk};
+ghost use Rattle.node_maps.specs.Kinds.{by_kind};
+ghost use Rattle.node_maps.specs.Marked.{marks_of};
+
+use crate::lists::{Candidates, Place};
+use lab_base::{Items, Memory, NodeId};
+use std::alloc::Global;
+use std::marker::Model;
+
+/// By virtual node and candidate whether the candidate's node is marked. Virtual nodes of one kind share a list.
+#[derive(Drop)]
+pub struct Marked {
+    /// By kind of virtual node.
+    lists: Vec<Items<bool>>,
+    /// By virtual node its kind.
+    kinds: Vec<usize>,
+}
+
+impl Model for Marked {
+    ghost use Rattle.std.specs.Prelude.{List, Bool};
+    ghost use Rattle.node_maps.specs.Kinds.{by_kind as marked_by_kind};
+
+    ghost Value = { List (List Bool) };
+
+    ghost view = { λ a. marked_by_kind a.lists.items a.kinds.items };
+}
+
+/// Whether a node is marked; those behind the end of the marks are.
+fn is_marked(nodes: &[bool], node: NodeId) -> bool
+    ensures { result ≡ slice_index_or nodes.now node.0 true }
+{
+    match nodes.get(node.0 as usize) {
+        Some(mark) => *mark,
+        None => true,
+    }
+}
+
+/// By place whether its node is marked.
+fn marks_in(alloc: Global, nodes: &[bool], listed: &[Place]) -> Result<Items<bool>, Memory>
+    ensures { IfOk result (λ marks. marks ≡ marks_of nodes.now listed.now) }
+{
+    let mut marks = Items::new(alloc);
+    for place in listed {
+        marks.push(is_marked(nodes, place.0))?;
+    }
+    Ok(marks)
+}
+
+/// By list and place whether the place's node is marked.
+fn all_marks(
+    alloc: Global,
+    nodes: &[bool],
+    lists: &[Items<Place>],
+) -> Result<Vec<Items<bool>>, Memory>
+    ensures { IfOk result (λ marks. marks.items ≡ map (marks_of nodes.now) lists.now) }
+{
+    let mut marks = Vec::new(alloc);
+    for listed in lists {
+        let own = marks_in(alloc, nodes, listed.as_slice())?;
+        marks.push(own)?;
+    }
+    Ok(marks)
+}
+
+impl Candidates {
+    /// By virtual node and candidate whether the candidate's node is marked; those behind the end of the marks are.
+    pub fn marked(&self, alloc: Global, nodes: &[bool]) -> Result<Marked, Memory>
+        ensures { IfOk result (λ marked. marked ≡ map (marks_of nodes.now) self.now) }
+    {
+        let lists = all_marks(alloc, nodes, &self.lists)?;
+        let kinds = self.kinds.clone()?;
+        Ok(Marked { lists, kinds })
+    }
+}
+
+/// The marks of a kind.
+fn list_of(lists: &[Items<bool>], kind: usize) -> &[bool]
+    ensures { result.now ≡ slice_index_or lists.now kind [] }
+{
+    match lists.get(kind) {
+        Some(marks) => marks.as_slice(),
+        None => &[],
+    }
+}
+
+impl Marked {
+    /// The marks of a virtual node's candidates.
+    pub fn of(&self, virt: usize) -> &[bool]
+        requires { virt < length self.now }
+        ensures { result.now ≡ slice_index_or self.now virt [] }
+    {
+        list_of(&self.lists, self.kinds[virt])
+    }
+}
