@@ -1,5 +1,5 @@
 -- Elements of lists.
-use Rattle.std.proofs.Common.{◌≡◌, ◌≢◌, ◌⊎◌, inl, inr, Bool, false, ◌||◌, List, [], ◌∷◌, ◌++◌, map, refl, sym, ap, ◌∙◌, subst, true, cond, ℕ, zero, suc, ◌+◌, ◌<◌, Some, length, get_or, arith, slice_get}
+use Rattle.std.proofs.Common.{◌≡◌, ◌≢◌, ◌⊎◌, inl, inr, Bool, false, ◌||◌, List, [], ◌∷◌, ◌++◌, map, refl, sym, ap, ◌∙◌, subst, true, cond, ℕ, zero, suc, ◌<◌, Some, length, get_or, arith, slice_get}
 use Rattle.std.specs.List.{flat_map, list_any, list_all, find, filter}
 use Rattle.std.proofs.lemmas.Bool.{or_parts, and_parts, and_from, or_cases, or_left, or_right, cases_Bool, false_from_ne_true}
 use Rattle.std.proofs.lemmas.Option.{same_Some}

@@ -54,7 +54,8 @@ impl Notes {
     {
         for number in 0..self.known.len() {
             let gone = all | marks[number];
-            self.known[number] = self.known[number] & !gone;
+            let known = self.is_known(number) & !gone;
+            self.note(number, known);
         }
     }
 }

@@ -15,3 +15,4 @@ pub mod Assembled
 pub mod MovedLaws
 pub mod KeptPlugs
 pub mod InOrder
+mod MarkLaws

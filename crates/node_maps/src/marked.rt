@@ -63,13 +63,20 @@ fn all_marks(
     Ok(marks)
 }
 
+fn copy_kinds(kinds: &Vec<usize>) -> Result<Vec<usize>, Memory>
+    ensures { IfOk result (λ copy. copy.items ≡ kinds.now.items) }
+{
+    let copy = kinds.clone()?;
+    Ok(copy)
+}
+
 impl Candidates {
     /// By virtual node and candidate whether the candidate's node is marked; those behind the end of the marks are.
     pub fn marked(&self, alloc: Global, nodes: &[bool]) -> Result<Marked, Memory>
         ensures { IfOk result (λ marked. marked ≡ map (marks_of nodes.now) self.now) }
     {
         let lists = all_marks(alloc, nodes, &self.lists)?;
-        let kinds = self.kinds.clone()?;
+        let kinds = copy_kinds(&self.kinds)?;
         Ok(Marked { lists, kinds })
     }
 }
