@@ -14,7 +14,6 @@ use Rattle.script_text.specs.declared.reply.Reply.{Reply}
 use Rattle.swap_txn.specs.declared.live.Live.{Live}
 use Rattle.lab_core.specs.declared.fault.CoreFault.{CoreFault}
 use Rattle.lab_core.specs.declared.fault.CoreFault.TheVariants as faults
-use Rattle.lab_judge.specs.declared.play.Play.{Play}
 use Rattle.lab_core.specs.Controller.{Control, WorksWith}
 use Rattle.lab_judge.specs.OpenNames.{has_open}
 use Rattle.lab_core.specs.InTurn.{IsPart, ObeysEvents}

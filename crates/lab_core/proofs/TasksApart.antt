@@ -1,6 +1,5 @@
 -- The task of a command is of no other experiment.
 use Rattle.std.proofs.Common.{◌≡◌, ◌≢◌, ℕ, Bool, true, is_some, List, Option, Some, Ok, sym, ap, ◌∙◌, subst}
-use Rattle.phys_lab.specs.Labs.{Lab}
 use Rattle.journal_rec.specs.declared.record.Record.{Record}
 use Rattle.journal_rec.specs.declared.record.Record.TheVariants as records
 use Rattle.journal_rec.specs.declared.record.Way.{Way}

@@ -1,6 +1,5 @@
 -- LINK EVENTS IN TURN: the list that `play` is.
 use Rattle.std.specs.Prelude.{ℕ, ◌+◌, Bool, true, false, ◌||◌, is_some, List, [], ◌∷◌, drop, length, Some, Result}
-use Rattle.virt_topo.specs.declared.experiment.Phase.TheVariants.{In}
 use Rattle.virt_topo.specs.declared.wiring.Wiring.{Wiring}
 use Rattle.records_model.specs.Labs.{LabState}
 use Rattle.recovery.specs.Due.{is_busy}

@@ -1,5 +1,5 @@
 -- A BATCH IN HAND: what is judged of it and of a run, and what the runs leave one after another.
-use Rattle.std.specs.Prelude.{◌≡◌, ◌⊎◌, ◌≤◌, ◌+◌, ℕ, Bool, true, false, List, [], ◌∷◌, ◌++◌, length, Some, None, Result, Ok, Err, IfOk, if◌then◌else◌}
+use Rattle.std.specs.Prelude.{◌≡◌, ◌⊎◌, ◌≤◌, ◌+◌, ℕ, Bool, true, false, List, [], ◌∷◌, ◌++◌, Some, None, Result, Ok, Err, IfOk, if◌then◌else◌}
 use Rattle.plant.specs.Seen.{Seen}
 use Rattle.recovery.specs.Due.{is_busy}
 use Rattle.cost_rule.specs.declared.rule.RuleNumber.{RuleNumber}

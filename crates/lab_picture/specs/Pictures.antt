@@ -1,5 +1,5 @@
 -- The picture of a lab.
-use Rattle.std.specs.Prelude.{ℕ, ◌+◌, List, [], ◌++◌, length, count_by, flat_map, codes, decimal, Bool, true, false, Option, Some, None}
+use Rattle.std.specs.Prelude.{ℕ, List, [], ◌++◌, length, count_by, flat_map, codes, decimal, Bool, true, false, Option, Some, None}
 use Rattle.std.specs.List.{range_with_len}
 use Rattle.lab_view.specs.declared.view.View.{View}
 use Rattle.lab_view.specs.declared.view.Stand.{Stand}

@@ -1,6 +1,6 @@
-use Rattle.std.proofs.Common.{◌∙◌, ℕ, true, false, arith, sym, ap, ◌+◌}
+use Rattle.std.proofs.Common.{◌∙◌, ℕ, arith, sym, ap, ◌+◌}
 use Rattle.std.proofs.lemmas.Bool.{eq-eqb, ne_eqb}
-use Rattle.lab_model.specs.Rules.{may_join, no_load}
+use Rattle.lab_model.specs.Rules.{no_load}
 use Rattle.feas.proofs.LoadLists.{later_on, left_to, passes, joins}
 use Rattle.feas.proofs.plugs.may_bear.Goals as goal
 use Rattle.feas.proofs.plugs.may_bear.Goals.{then-at-plug+else-not-may_join+else-other-left, else-at-plug}

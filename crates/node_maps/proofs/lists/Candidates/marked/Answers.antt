@@ -1,4 +1,4 @@
-use Rattle.std.proofs.Common.{◌≡◌, ◌∙◌, ℕ, List, map, ap}
+use Rattle.std.proofs.Common.{◌∙◌, List, map, ap}
 use Rattle.lab_model.specs.Shapes.{Place}
 use Rattle.node_maps.specs.Kinds.{by_kind}
 use Rattle.node_maps.specs.Marked.{marks_of}
