@@ -11,6 +11,6 @@ mod trunks;
 mod whole;
 
 pub use fault::CheckFault;
-pub use nodes::may_share;
+pub use nodes::{may_share, number_of};
 pub use places::{is_fixed_at, suits};
 pub use whole::check;

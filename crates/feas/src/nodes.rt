@@ -43,7 +43,8 @@ fn guests(
     Ok(listed)
 }
 
-fn number_of(pairs: &[(Name, u16)], name: Name) -> u16
+/// The number of the name, 0 where it isn't there.
+pub fn number_of(pairs: &[(Name, u16)], name: Name) -> u16
     ensures { result ≡ number_of pairs.now name }
 {
     for pair in pairs {

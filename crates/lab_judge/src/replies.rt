@@ -13,6 +13,7 @@ pub(crate) fn lab_reply(lab: &Lab) -> Reply
     ensures reply { result ≡ lab_reply lab.now }
     ensures kept { IsLab lab.now }
 {
+    // for the prover: it tells what every lab keeps
     let _kept = lab.range();
     Reply::Lab {
         switches: lab.switches().len() as u16,

@@ -71,6 +71,7 @@ impl Moves<'_> {
         requires laid { IsLaid self.now.setting board.now }
         ensures { result ≡ price (sought_of self.now rule.now.number) board.now.mapping }
     {
+        // for the prover: it tells what every lab keeps
         let _kept = self.setting.mapper.lab.range();
         rule.ask_parts(board.parts(&self.setting))
     }
@@ -98,6 +99,7 @@ impl Tried {
             → plugs_of moves.now.setting.mapper.lab.now moves.now.setting.mapper.wiring.now self.now.board.mapping.places ≡ Some plugs
             → below ≤ price (sought_of moves.now rule.now.number) (record { places = self.now.board.mapping.places; plugs = plugs }) }
     {
+        // for the prover: it tells what every lab keeps
         let _kept = moves.setting.mapper.lab.range();
         match self.board.foreseen(&moves.setting) {
             Some(parts) => u128::from(rule.ask_parts(parts)) >= below,

@@ -341,6 +341,7 @@ impl Board {
             ≡ (if yes then Some self.now.mapping else None)) }
     {
         let mapper = setting.mapper;
+        // for the prover: it tells what every lab keeps
         let _kept = mapper.lab.range();
         if !self.has_types(setting) {
             return Ok(false);

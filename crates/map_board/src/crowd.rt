@@ -3,6 +3,7 @@ ghost use Rattle.std.specs.Prelude.{◌≡◌, ◌<◌, true, nat_le, length};
 ghost use Rattle.lab_model.specs.Shapes.{node_at, has_name};
 ghost use Rattle.lab_model.specs.Rules.{number_of};
 
+use feas::number_of;
 use lab_base::{Name, NodeId};
 use node_maps::Place;
 use phys_lab::Lab;
@@ -13,18 +14,6 @@ fn types_at(lab: &Lab, node: NodeId) -> &[(Name, u16)]
     ensures { result.now ≡ (node_at lab.now node).types }
 {
     lab.nodes()[node.0 as usize].types.as_slice()
-}
-
-/// The number of the name, 0 where it isn't there.
-fn number_of(pairs: &[(Name, u16)], name: Name) -> u16
-    ensures { result ≡ number_of pairs.now name }
-{
-    for pair in pairs {
-        if pair.0 == name {
-            return pair.1;
-        }
-    }
-    0
 }
 
 /// Whether a node with so many virtual nodes on it has as many as may have a type of it there. That is one at least.

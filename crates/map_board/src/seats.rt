@@ -184,6 +184,7 @@ impl Seats {
         ensures nodes { self.new.nodes ≡ nodes_in_use (placed_at mapping.old virt place) }
         ensures soft { self.new.soft ≡ self.old.soft }
     {
+        // for the prover: it tells what every lab keeps
         let _kept = lab.range();
         let from = node_of(mapping, virt);
         self.leave(from);
@@ -213,6 +214,7 @@ impl Seats {
         ensures shaped { IsShaped lab.now wiring.now mapping.new }
         ensures seated { IsSeated lab.now wiring.now mapping.new self.new }
     {
+        // for the prover: it tells what every lab keeps
         let _kept = lab.range();
         let from = node_of(mapping, virt);
         let kind = kind_of(mapping, virt);

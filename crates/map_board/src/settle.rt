@@ -41,6 +41,7 @@ impl Board {
         ensures { IfOk result (λ yes. yes ≡ may_share setting.now.mapper.lab.now setting.now.mapper.wiring.now self.now.mapping.places node.0) }
     {
         let mapper = setting.mapper;
+        // for the prover: it tells what every lab keeps
         let _kept = mapper.lab.range();
         if self.seats.guests[node.0 as usize] <= 1 {
             return Ok(true);
@@ -90,6 +91,7 @@ impl Board {
         ensures { IsTrue result
             ↔ AllPass (length setting.now.mapper.wiring.now.segments) (keeps_f7 setting.now.mapper.lab.now setting.now.mapper.wiring.now self.now.mapping) }
     {
+        // for the prover: it tells what every lab keeps
         let _kept = setting.mapper.lab.range();
         if setting.table.joined {
             return true;
@@ -108,6 +110,7 @@ impl Board {
             → (IsTrue result ↔ AllPass (length setting.now.mapper.wiring.now.segments)
             (keeps_f7 setting.now.mapper.lab.now setting.now.mapper.wiring.now self.now.mapping)) }
     {
+        // for the prover: it tells what every lab keeps
         let _kept = setting.mapper.lab.range();
         if setting.table.joined {
             return true;
@@ -217,6 +220,7 @@ impl Board {
             ≡ (if result then Some self.now.mapping else None) }
     {
         let mapper = setting.mapper;
+        // for the prover: it tells what every lab keeps
         let _kept = mapper.lab.range();
         if !has_ids(mapper.free, mapper.wiring) {
             return false;

@@ -26,6 +26,7 @@ fn row_of(alloc: Global, lab: &Lab, wiring: &Wiring, virt: usize) -> Result<Item
     requires virt { virt < length wiring.now.nodes }
     ensures { IfOk result (IsSoftRow lab.now wiring.now virt) }
 {
+    // for the prover: it tells what every lab keeps
     let _kept = lab.range();
     let mut row = Items::new(alloc);
     for node in 0..lab.nodes().len() {

@@ -115,6 +115,7 @@ fn is_joined_to_all(lab: &Lab, switch: usize) -> bool
     ensures joined { IsTrue result → (b : ℕ) → b < length lab.now.switches → joined lab.now.trunks switch b ≡ true }
     ensures parted { IsFalse result → (b : ℕ) × (b < length lab.now.switches) × (joined lab.now.trunks switch b ≡ false) }
 {
+    // for the prover: it tells what every lab keeps
     let _kept = lab.range();
     for other in 0..lab.switches().len() {
         if !lab.joined(SwitchId(switch as u16), SwitchId(other as u16)) {

@@ -140,6 +140,7 @@ impl Given {
         ensures sized { OnOk result (IsSized lab.now self.new) }
         ensures adds { IfOk result (λ yes. (had : List Laid) → Marks lab.now self.old had → IsNext end had → Adds lab.now places.now end had self.new yes) }
     {
+        // for the prover: it tells what every lab keeps
         let _kept = lab.range();
         let Some(place) = places.get(end.node as usize) else {
             return Ok(true);

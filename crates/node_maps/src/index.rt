@@ -77,6 +77,7 @@ fn lists_of(alloc: Global, lab: &Lab, used: &[bool]) -> Result<Vec<Items<NodeIfa
     ensures each { IfOk result (λ lists. (node : ℕ) → slice_index_or used.now node false ≡ true
         → slice_index_or lists.items node [] ≡ ifaces_of 0 lab.now.ifaces node) }
 {
+    // for the prover: it tells what every lab keeps
     let _kept = lab.range();
     let ifaces = lab.ifaces();
     let mut lists = no_ifaces(alloc, lab.nodes().len())?;

@@ -26,6 +26,7 @@ fn push_places(listed: &mut Vec<Place>, id: NodeId, node: &Node) -> Result<(), M
 fn places_of(alloc: Global, lab: &Lab) -> Result<Vec<Place>, Memory>
     ensures { IfOk result (λ listed. listed.items ≡ lab_places lab.now) }
 {
+    // for the prover: it tells what every lab keeps
     let _kept = lab.range();
     let nodes = lab.nodes();
     let mut listed = Vec::new(alloc);

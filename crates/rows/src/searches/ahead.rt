@@ -13,6 +13,7 @@ fn all_nodes(alloc: Global, lab: &Lab) -> Result<Vec<NodeId>, Memory>
     ensures differ { IfOk result (λ nodes. AllDiffer nodes.items) }
     ensures of_lab { IfOk result (λ nodes. All (λ node. node.0 < length lab.now.nodes) nodes.items) }
 {
+    // for the prover: it tells what every lab keeps
     let _few = lab.range();
     let mut nodes = Vec::new(alloc);
     for n in 0..lab.nodes().len() {
