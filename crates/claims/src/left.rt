@@ -1,4 +1,4 @@
-// // The rest of a lab that claims leave.
+// The rest of a lab that claims leave.
 ghost use Rattle.std.specs.Prelude.{◌≡◌, ◌+◌, ◌-◌, ◌<◌, ◌≤◌, ◌^◌, ℕ, map, take, length, slice_index_or, count_by, is_none, IfOk, IfSome};
 ghost use Rattle.lab_base.specs.Lists.{Has};
 ghost use Rattle.claims.specs.declared.claim.Entry.{Entry as AnyEntry};

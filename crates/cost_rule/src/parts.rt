@@ -1,4 +1,4 @@
-// // The parts of a mapping's cost.
+// The parts of a mapping's cost.
 ghost use Rattle.std.specs.Prelude.{◌≡◌};
 ghost use Rattle.phys_lab.specs.Labs.{Lab as LabSeen};
 ghost use Rattle.virt_topo.specs.declared.wiring.Wiring.{Wiring as WiringSeen};

@@ -1,4 +1,4 @@
-// // The weights of desires, features and classes that a mapping leaves unmet.
+// The weights of desires, features and classes that a mapping leaves unmet.
 ghost use Rattle.std.specs.Prelude.{◌≡◌, ◌<◌, ◌≤◌, ◌*◌, ◌+◌, ◌-◌, ◌&&◌, not, if◌then◌else◌, length};
 ghost use Rattle.std.specs.List.{list_any};
 ghost use Rattle.lab_base.specs.Names.{same_name};

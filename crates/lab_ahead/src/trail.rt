@@ -1,4 +1,4 @@
-// // Trails of needs, from one that wants a node.
+// Trails of needs, from one that wants a node.
 
 /// A need on a trail. It is reached by the place of a node that it has, and that the need of an earlier step can take.
 #[derive(Clone, Copy)]

@@ -1,4 +1,4 @@
-// // The script of a seed.
+// The script of a seed.
 ghost use Rattle.std.specs.Prelude.{◌≡◌, ◌+◌, ◌*◌, ◌-◌, ◌%◌, ◌<◌, ◌≤◌, ◌++◌, List, length, IfOk, OnOk};
 ghost use Rattle.std.specs.List.{flat_map};
 ghost use Rattle.lab_gen.specs.Script.{drawn_lines, experiment_lines, generated, generator_behind, interface_lines, lab_lines, numbers, swapout_lines, text_of, top_lines};

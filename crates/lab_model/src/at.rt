@@ -1,4 +1,4 @@
-// // The parts that the numbers of a mapping name.
+// The parts that the numbers of a mapping name.
 ghost use Rattle.std.specs.Prelude.{◌≡◌, ◌<◌, length};
 ghost use Rattle.virt_topo.specs.Wirings.{virt_at};
 ghost use Rattle.lab_model.specs.Shapes.{node_at};

@@ -1,4 +1,4 @@
-// // The claims of experiments.
+// The claims of experiments.
 ghost use Rattle.std.specs.Prelude.{◌≡◌};
 ghost use Rattle.std.specs.List.{list_any};
 ghost use Rattle.std.specs.Str.{bytes_eq};

@@ -1,4 +1,4 @@
-// // Entering the changes of records into the lab.
+// Entering the changes of records into the lab.
 ghost use Rattle.std.specs.Prelude.{◌≡◌, ◌≤◌, ◌<◌, length, Some, None, IfSome};
 ghost use Rattle.virt_topo.specs.declared.experiment.Experiment.{Experiment as AnyExperiment};
 ghost use Rattle.virt_topo.specs.declared.experiment.Phase.TheVariants as phases;

@@ -1,4 +1,4 @@
-// // Explicit addresses of ends.
+// Explicit addresses of ends.
 ghost use Rattle.std.specs.Prelude.{◌≡◌, false, not, nat_eq, IfOk, []};
 ghost use Rattle.std.specs.Bool.{OnTrue};
 ghost use Rattle.std.specs.List.{list_any};

@@ -1,4 +1,4 @@
-// // The claims of experiments.
+// The claims of experiments.
 ghost use Rattle.std.specs.Prelude.{◌≡◌, ◌++◌, not, map, length, IfOk, OnOk};
 ghost use Rattle.std.specs.List.{flat_map, list_all};
 ghost use Rattle.lab_model.specs.Claims.{tags_of, claimed_tags};

@@ -1,4 +1,4 @@
-// // Whether trunks, nodes and VLAN ids hold the claims.
+// Whether trunks, nodes and VLAN ids hold the claims.
 ghost use Rattle.std.specs.Prelude.{◌≡◌, ◌↔◌, ◌==◌, IsTrue, IfOk};
 ghost use Rattle.std.specs.List.{flat_map, list_all, list_any};
 ghost use Rattle.lab_model.specs.Beside.{all_differ};

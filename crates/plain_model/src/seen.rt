@@ -1,4 +1,4 @@
-// // The rows and pipes that commands leave.
+// The rows and pipes that commands leave.
 ghost use Rattle.std.specs.Prelude.{◌≡◌, ◌++◌, fold, None, IfOk, OnOk};
 ghost use Rattle.plain_model.specs.Rows.{row_seen, rows_by, rows_of, pipe_then, pipe_seen, pipes_by, pipes_of};
 

@@ -1,4 +1,4 @@
-// // The uses of trunks.
+// The uses of trunks.
 ghost use Rattle.std.specs.Prelude.{◌≡◌, ◌<◌, true, nat_le, length, sum_by};
 ghost use Rattle.virt_topo.specs.Soundness.{keeps_limits};
 ghost use Rattle.lab_model.specs.Shapes.{IsShaped};

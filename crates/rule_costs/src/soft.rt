@@ -1,4 +1,4 @@
-// // The unmet weights of the virtual nodes that moved, and of their classes.
+// The unmet weights of the virtual nodes that moved, and of their classes.
 ghost use Rattle.std.specs.Prelude.{◌≡◌, ◌<◌, ◌≤◌, ◌*◌, ◌↔◌, ◌+◌, ℕ, true, false, length};
 ghost use Rattle.virt_topo.specs.Soundness.{IsSound};
 ghost use Rattle.virt_topo.specs.Wirings.{virt_at};

@@ -1,4 +1,4 @@
-// // The cost of a second mapping, from the parts that moved.
+// The cost of a second mapping, from the parts that moved.
 ghost use Rattle.std.specs.Prelude.{◌≡◌, ◌≤◌, ◌*◌};
 ghost use Rattle.virt_topo.specs.Soundness.{IsSound};
 ghost use Rattle.lab_model.specs.Shapes.{IsShaped};

@@ -1,4 +1,4 @@
-// // The uses of trunks by the segments with a moved plug.
+// The uses of trunks by the segments with a moved plug.
 ghost use Rattle.std.specs.Prelude.{◌≡◌, ◌<◌, ◌≤◌, ◌*◌, length, All};
 ghost use Rattle.virt_topo.specs.Cables.{plugs_on, cable_use};
 ghost use Rattle.virt_topo.specs.Soundness.{IsSound};

@@ -1,4 +1,4 @@
-// // The first line of a command.
+// The first line of a command.
 ghost use Rattle.std.specs.Prelude.{◌≡◌, ◌≤◌, IfOk, IfSome};
 ghost use Rattle.std.specs.Str.{bytes_eq};
 ghost use Rattle.lab_base.specs.Texts.{views};

@@ -1,4 +1,4 @@
-// // The places and plugs that the lines of a solution text give.
+// The places and plugs that the lines of a solution text give.
 ghost use Rattle.std.specs.Prelude.{◌≡◌, ◌<◌, ◌^◌, is_some, slice_index_or, replicate, length, None, IfSome, IfOk};
 ghost use Rattle.line_text.specs.Refusals.{Takes};
 ghost use Rattle.lab_model.specs.Shapes.{has_name};

@@ -1,4 +1,4 @@
-// // Tables of the names in a solution text.
+// Tables of the names in a solution text.
 ghost use Rattle.std.specs.Prelude.{◌≡◌, ◌<◌, ◌^◌, ℕ, List, map, position, length, None, IfOk, IfSome};
 ghost use Rattle.lab_base.specs.Names.{same_name};
 ghost use Rattle.indexmap.specs.IndexMap.{get};

@@ -1,4 +1,4 @@
-// // Laws on the swaps that a manager holds.
+// Laws on the swaps that a manager holds.
 ghost use Rattle.std.specs.Prelude.{◌≡◌, ◌↔◌, ◌++◌, ◌∷◌, [], ℕ, List, Option, is_none};
 ghost use Rattle.lab_base.specs.Lists.{Has};
 ghost use Rattle.plant.specs.Told.{Told};

@@ -1,4 +1,4 @@
-// // The OS and pipes that a mapping wants, by the number of the node in its lab.
+// The OS and pipes that a mapping wants, by the number of the node in its lab.
 ghost use Rattle.std.specs.Prelude.{◌≡◌, ◌<◌, ◌++◌, ◌∷◌, [], length, map, replicate, slice_index_or, slice_set, Some, IfOk, OnOk};
 ghost use Rattle.virt_topo.specs.Soundness.{IsSound};
 ghost use Rattle.virt_topo.specs.Wirings.{virt_at};

@@ -1,4 +1,4 @@
-// // Laws on the facts that the states of a swap keep.
+// Laws on the facts that the states of a swap keep.
 ghost use Rattle.std.specs.Prelude.{◌≢◌, ◌++◌, [], ◌∷◌, ℕ, List, length, Bool, Result, IfSome};
 ghost use Rattle.lab_base.specs.Lists.{Has};
 ghost use Rattle.phys_lab.specs.Labs.{Lab};

@@ -1,4 +1,4 @@
-// // A course on its way: its place, and one step of it.
+// A course on its way: its place, and one step of it.
 use crate::halt::Halt;
 use crate::place::{after, from_clear, from_node, listed, node_at};
 use crate::sent::send;

@@ -1,4 +1,4 @@
-// // Adding the parts of a line to the wiring so far, and to its tables.
+// Adding the parts of a line to the wiring so far, and to its tables.
 ghost use Rattle.std.specs.Prelude.{◌≡◌, ◌≤◌, ◌<◌, Ok, OnOk, IfOk, IfSome, map, length, is_some};
 ghost use Rattle.virt_topo.specs.Wirings.{virt_at};
 ghost use Rattle.line_text.specs.Refusals.{Takes};

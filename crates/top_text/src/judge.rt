@@ -1,4 +1,4 @@
-// // The fault of a line, from the tests of the wiring with it.
+// The fault of a line, from the tests of the wiring with it.
 ghost use Rattle.line_text.specs.Refusals.{Takes};
 ghost use Rattle.virt_topo.specs.declared.wiring.Wiring.{Wiring as AnyWiring};
 ghost use Rattle.top_text.specs.Tables.{judged};

@@ -1,4 +1,4 @@
-// // The wiring of the lines read so far, and the tests with one more line.
+// The wiring of the lines read so far, and the tests with one more line.
 ghost use Rattle.std.specs.Prelude.{◌≡◌, ◌≤◌, ◌<◌, ◌++◌, ◌∷◌, ◌||◌, ◌&&◌, ◌+◌, ◌==◌, []};
 ghost use Rattle.std.specs.Prelude.{true, not, List, ℕ, Ok, IfSome, map, length, nat_lt, nat_le, slice_index_or};
 ghost use Rattle.std.specs.List.{list_all, list_any};

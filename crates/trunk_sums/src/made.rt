@@ -1,4 +1,4 @@
-// // Changes of plugs, one after another.
+// Changes of plugs, one after another.
 ghost use Rattle.std.specs.Prelude.{◌≡◌, ◌<◌, true, All, List, length};
 ghost use Rattle.lab_base.specs.declared.ids.IfaceId.{IfaceId as IfaceSeen};
 ghost use Rattle.trunk_sums.specs.declared.made.Change.{Change as ChangeSeen};

@@ -1,4 +1,4 @@
-// // Copies of wirings.
+// Copies of wirings.
 ghost use Rattle.std.specs.Prelude.{◌≡◌, IfOk};
 
 use crate::{Class, Segment, VirtNode, Wiring};

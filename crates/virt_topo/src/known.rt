@@ -1,4 +1,4 @@
-// // Whether each number of a wiring names something.
+// Whether each number of a wiring names something.
 ghost use Rattle.std.specs.Prelude.{◌≡◌, ◌≤◌, length, true};
 ghost use Rattle.std.specs.List.{list_all};
 ghost use Rattle.virt_topo.specs.Ends.{end_nodes};

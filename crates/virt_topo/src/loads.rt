@@ -1,4 +1,4 @@
-// // The loads of ends on their interfaces.
+// The loads of ends on their interfaces.
 ghost use Rattle.std.specs.Prelude.{◌≡◌, ◌<◌, ◌≤◌, ◌++◌, length, replicate, IfOk, OnOk};
 ghost use Rattle.virt_topo.specs.Loads.{load_of, loads_from};
 

@@ -1,4 +1,4 @@
-// // Whether a name, a type, a desire or an address of a wiring is given twice.
+// Whether a name, a type, a desire or an address of a wiring is given twice.
 ghost use Rattle.std.specs.Prelude.{◌≡◌, ◌++◌, ◌||◌, ◌==◌};
 ghost use Rattle.std.specs.List.{list_any};
 ghost use Rattle.lab_base.specs.Names.{same_name};
