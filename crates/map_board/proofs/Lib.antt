@@ -8,6 +8,7 @@ pub mod Choices
 pub mod BoardLaws
 mod RowLaws
 mod PartSums
+mod MemberLaws
 pub mod CrowdLaws
 pub mod PlannedLaws
 pub mod Alikes

@@ -30,7 +30,7 @@ other_node : (lab : Lab) (w : Wiring) (m : Mapping) (v k : ℕ) (p : Place) → 
 other_node lab w m v k p apart =
     ap (λ (q : Place). missed (virt_at w k).desires (node_at lab q.0).features + missed (node_at lab q.0).features (virt_at w k).desires) (get_or-set_other m.places v k p no_place apart)
 
-types_same : (c : ℕ) (vs : List VirtNode) (places : List Place) (v : ℕ) (p : Place) → is_member c (get_or vs v no_virt).asks ≡ false → types_of c vs (set places v p) ≡ types_of c vs places
+pub types_same : (c : ℕ) (vs : List VirtNode) (places : List Place) (v : ℕ) (p : Place) → is_member c (get_or vs v no_virt).asks ≡ false → types_of c vs (set places v p) ≡ types_of c vs places
 types_same c [] places v p apart = refl
 types_same c (x ∷ vs) [] v p apart = refl
 types_same c (x ∷ vs) (q ∷ places) zero p apart =
@@ -42,7 +42,7 @@ other_class w m v c p apart =
     ap (λ (l : List (List ℕ)). cond (nat_lt (class_at w c).weight 1000) ((class_at w c).weight * (different same_name l - 1)) 0) (types_same c w.nodes m.places v p apart)
 
 -- the types of a class's members, where virtual node v is one of them
-types_at : (c : ℕ) (vs : List VirtNode) (places : List Place) (v : ℕ) → v < length vs → v < length places → is_member c (get_or vs v no_virt).asks ≡ true
+pub types_at : (c : ℕ) (vs : List VirtNode) (places : List Place) (v : ℕ) → v < length vs → v < length places → is_member c (get_or vs v no_virt).asks ≡ true
     → types_of c vs places ≡ types_of c (take v vs) (take v places) ++ (get_or places v no_place).1 ∷ types_of c (drop (v + 1) vs) (drop (v + 1) places)
 types_at c [] places v lt few is = absurd (omega (arith, lt))
 types_at c (x ∷ vs) [] v lt few is = absurd (omega (arith, few))
@@ -58,7 +58,7 @@ types_at c (x ∷ vs) (q ∷ places) (suc v) lt few is =
     by false front back = refl
 
 -- the same once it has another place
-types_set : (c : ℕ) (vs : List VirtNode) (places : List Place) (v : ℕ) (p : Place) → v < length vs → v < length places → is_member c (get_or vs v no_virt).asks ≡ true
+pub types_set : (c : ℕ) (vs : List VirtNode) (places : List Place) (v : ℕ) (p : Place) → v < length vs → v < length places → is_member c (get_or vs v no_virt).asks ≡ true
     → types_of c vs (set places v p) ≡ types_of c (take v vs) (take v places) ++ p.1 ∷ types_of c (drop (v + 1) vs) (drop (v + 1) places)
 types_set c [] places v p lt few is = absurd (omega (arith, lt))
 types_set c (x ∷ vs) [] v p lt few is = absurd (omega (arith, few))

@@ -2,6 +2,7 @@ pub mod Nodes
 pub mod Ties
 pub mod Softs
 pub mod Tables
+pub mod Members
 pub mod Seated
 pub mod Unmade
 pub mod Boards

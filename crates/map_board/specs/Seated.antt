@@ -10,6 +10,7 @@ use Rattle.virt_topo.specs.declared.mapping.Mapping.{Mapping}
 use Rattle.lab_model.specs.Shapes.{Place, node_at}
 use Rattle.lab_model.specs.Rules.{class_at, no_place, number_of}
 use Rattle.cost_rule.specs.Cost.{types_of, soft, nodes_in_use}
+use Rattle.map_board.specs.Members.{AreMembers}
 use Rattle.map_board.specs.declared.seats.Seats.{Seats}
 
 -- how many virtual nodes are on node n
@@ -24,11 +25,12 @@ IsCrowded lab places v = number_of (node_at lab (slice_index_or places v no_plac
 abbrev pub IsFull : Lab → List Place → ℕ → Place → Type 0
 IsFull lab places v p = ((slice_index_or places v no_place).0.0 ≡ p.0.0 → ⊥) × (number_of (node_at lab p.0).types p.1 ≤ guests_at places p.0.0)
 
--- by node how many virtual nodes are on it; how many nodes are in use; what is soft
+-- by node how many virtual nodes are on it; how many nodes are in use; by class and type how many members have it; what is soft
 pub record IsSeated (lab : Lab) (w : Wiring) (m : Mapping) (x : Seats) : Type 0 where
   pub one_each : length x.guests.items ≡ length lab.nodes
   pub guests : (n : ℕ) → n < length lab.nodes → slice_index_or x.guests.items n 0 ≡ guests_at m.places n
   pub nodes : x.nodes ≡ nodes_in_use m
+  pub members : AreMembers w m x.members
   pub soft : x.soft ≡ soft lab w m
 
 -- what class c would cost more if one of its members had this type too: nothing where one has it

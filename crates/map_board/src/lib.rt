@@ -1,5 +1,5 @@
 //! A node map that tries change in place.
-//! It keeps by node the number of its virtual nodes, by trunk the use, and the parts of its cost.
+//! It keeps by node the number of its virtual nodes, by class and type the number of members, by trunk the use, and the parts of its cost.
 #![tactic(auto)]
 
 mod board;
@@ -7,6 +7,7 @@ mod chosen;
 mod crowd;
 mod give;
 mod joints;
+mod members;
 mod remake;
 mod seats;
 mod settle;

@@ -3,73 +3,28 @@ ghost use Rattle.std.specs.Prelude.{◌≡◌, ◌<◌, ◌≤◌, ◌+◌, ◌-
 ghost use Rattle.virt_topo.specs.Soundness.{IsSound};
 ghost use Rattle.cost_rule.specs.Cost.{nodes_in_use, soft as soft_in};
 ghost use Rattle.lab_model.specs.Shapes.{IsShaped, node_at, has_name};
-ghost use Rattle.virt_topo.specs.Wirings.{virt_at};
 ghost use Rattle.lab_model.specs.Rules.{no_place};
 ghost use Rattle.map_board.specs.Softs.{AreSofts};
-ghost use Rattle.map_board.specs.Seated.{IsSeated, guests_at, kind_soft as kind_soft_in, asked_soft as asked_soft_in, placed_at};
+ghost use Rattle.map_board.specs.Members.{AreMembers};
+ghost use Rattle.map_board.specs.Seated.{IsSeated, guests_at, placed_at};
 
+use crate::members::Members;
 use crate::softs::Softs;
-use cost_rule::{MAX_SOFT, has_kind, parts_of};
+use cost_rule::{MAX_SOFT, parts_of};
 use lab_base::{Items, Memory, Name, NodeId};
 use node_maps::Place;
 use phys_lab::Lab;
 use std::alloc::Global;
 use std::mem;
-use virt_topo::{Asks, MAX_CLASSES, MAX_SOFT_WEIGHT, MAX_TOPOLOGY_NODES, Mapping, Wiring};
+use virt_topo::{MAX_TOPOLOGY_NODES, Mapping, Wiring};
 
-/// By node how many virtual nodes are on it, how many nodes are in use, and what is soft.
+/// By node how many virtual nodes are on it, how many nodes are in use, by class and type how many members have it, and what is soft.
 #[derive(Drop)]
 pub struct Seats {
     pub(crate) guests: Vec<u16>,
     pub(crate) nodes: u64,
+    pub(crate) members: Members,
     pub(crate) soft: u64,
-}
-
-/// The cost that a class would have more if one of its members had a type too.
-fn kind_soft(wiring: &Wiring, mapping: &Mapping, class: usize, kind: Name) -> u64
-    requires placed { length mapping.now.places ≡ length wiring.now.nodes }
-    requires class { class < length wiring.now.classes }
-    requires few { length wiring.now.classes ≤ MAX_CLASSES }
-    ensures is { result ≡ kind_soft_in wiring.now mapping.now class kind }
-    ensures small { result ≤ MAX_SOFT_WEIGHT }
-{
-    let weight = wiring.classes.as_slice()[class].weight;
-    if weight < 1_000 && !has_kind(wiring, mapping, class as u16, kind, 0) {
-        weight as u64
-    } else {
-        0
-    }
-}
-
-/// The cost that the class asked for, if there is one, would have more by that type.
-fn asked_soft(wiring: &Wiring, mapping: &Mapping, asks: &Asks, kind: Name) -> u64
-    requires sound { IsSound wiring.now }
-    requires placed { length mapping.now.places ≡ length wiring.now.nodes }
-    ensures is { result ≡ asked_soft_in wiring.now mapping.now asks.now kind }
-    ensures small { result ≤ MAX_SOFT_WEIGHT }
-{
-    match asks {
-        Asks::Plain(_) => 0,
-        Asks::Class(class) => {
-            if (*class as usize) < wiring.classes.len() {
-                kind_soft(wiring, mapping, *class as usize, kind)
-            } else {
-                0
-            }
-        }
-    }
-}
-
-/// The cost that the class of a virtual node would have more by that type.
-fn type_soft(wiring: &Wiring, mapping: &Mapping, virt: usize, kind: Name) -> u64
-    requires sound { IsSound wiring.now }
-    requires placed { length mapping.now.places ≡ length wiring.now.nodes }
-    requires virt { virt < length wiring.now.nodes }
-    ensures is { result ≡ asked_soft_in wiring.now mapping.now (virt_at wiring.now virt).asks kind }
-    ensures small { result ≤ MAX_SOFT_WEIGHT }
-{
-    let asks = &wiring.nodes.as_slice()[virt].asks;
-    asked_soft(wiring, mapping, asks, kind)
 }
 
 fn node_of(mapping: &Mapping, virt: usize) -> NodeId
@@ -127,10 +82,12 @@ impl Seats {
         ensures { IfOk result (λ seats. IsSeated lab.now wiring.now mapping.now seats) }
     {
         let guests = count_guests(alloc, lab, mapping)?;
+        let members = Members::of(alloc, wiring, mapping)?;
         let parts = parts_of(lab, wiring, mapping);
         Ok(Seats {
             guests,
             nodes: parts.nodes,
+            members,
             soft: parts.soft,
         })
     }
@@ -141,6 +98,7 @@ impl Seats {
         requires used { slice_index_or self.old.guests.items node.0 0 ≡ 1 → 0 < self.old.nodes }
         ensures guests { self.new.guests.items ≡ slice_set self.old.guests.items node.0 (slice_index_or self.old.guests.items node.0 0 - 1) }
         ensures nodes { self.new.nodes + (if slice_index_or self.old.guests.items node.0 0 == 1 then 1 else 0) ≡ self.old.nodes }
+        ensures members { self.new.members ≡ self.old.members }
         ensures soft { self.new.soft ≡ self.old.soft }
     {
         self.guests[node.0 as usize] -= 1;
@@ -155,6 +113,7 @@ impl Seats {
         requires few_nodes { self.old.nodes ≤ MAX_TOPOLOGY_NODES }
         ensures guests { self.new.guests.items ≡ slice_set self.old.guests.items node.0 (slice_index_or self.old.guests.items node.0 0 + 1) }
         ensures nodes { self.new.nodes ≡ self.old.nodes + (if slice_index_or self.old.guests.items node.0 0 == 0 then 1 else 0) }
+        ensures members { self.new.members ≡ self.old.members }
         ensures soft { self.new.soft ≡ self.old.soft }
     {
         if self.guests[node.0 as usize] == 0 {
@@ -168,20 +127,21 @@ impl Seats {
         &mut self,
         alloc: Global,
         lab: &Lab,
-        _wiring: &Wiring,
+        wiring: &Wiring,
         mapping: &mut Mapping,
         virt: usize,
         place: Place,
     )
-        requires sound { IsSound _wiring.now }
-        requires shaped { IsShaped lab.now _wiring.now mapping.old }
-        requires seated { IsSeated lab.now _wiring.now mapping.old self.old }
-        requires virt { virt < length _wiring.now.nodes }
+        requires sound { IsSound wiring.now }
+        requires shaped { IsShaped lab.now wiring.now mapping.old }
+        requires seated { IsSeated lab.now wiring.now mapping.old self.old }
+        requires virt { virt < length wiring.now.nodes }
         requires node { place.0.0 < length lab.now.nodes }
         ensures mapping { mapping.new ≡ placed_at mapping.old virt place }
         ensures one_each { length self.new.guests.items ≡ length lab.now.nodes }
         ensures guests { (n : ℕ) → n < length lab.now.nodes → slice_index_or self.new.guests.items n 0 ≡ guests_at (placed_at mapping.old virt place).places n }
         ensures nodes { self.new.nodes ≡ nodes_in_use (placed_at mapping.old virt place) }
+        ensures members { AreMembers wiring.now (placed_at mapping.old virt place) self.new.members }
         ensures soft { self.new.soft ≡ self.old.soft }
     {
         // for the prover: it tells what every lab keeps
@@ -189,6 +149,7 @@ impl Seats {
         let from = node_of(mapping, virt);
         self.leave(from);
         self.join(place.0);
+        self.members.go(wiring, mapping, virt, &place);
         set_place(alloc, mapping, virt, place);
     }
 
@@ -220,9 +181,9 @@ impl Seats {
         let kind = kind_of(mapping, virt);
         let before = softs.at(lab, wiring, virt, from);
         let after = softs.at(lab, wiring, virt, place.0);
-        let gained = type_soft(wiring, mapping, virt, place.1);
+        let gained = self.members.type_soft(wiring, mapping, virt, &place.1);
         self.go(alloc, lab, wiring, mapping, virt, place);
-        let lost = type_soft(wiring, mapping, virt, kind);
+        let lost = self.members.type_soft(wiring, mapping, virt, &kind);
         self.soft = changed(self.soft, (after, gained), (before, lost));
     }
 

@@ -19,7 +19,13 @@ returns-clause-laid c =
     record {
       choice = laid.choice;
       shaped = subst (λ (l : List IfaceId). IsShaped lab w (record { places = b.mapping.places; plugs = l })) (sym plugs) (planned_shaped x b laid c.requires.changes);
-      seated = record { one_each = laid.seated.one_each; guests = laid.seated.guests; nodes = laid.seated.nodes; soft = laid.seated.soft };
+      seated = record {
+        one_each = laid.seated.one_each;
+        guests = laid.seated.guests;
+        nodes = laid.seated.nodes;
+        members = record { room = laid.seated.members.room; each = laid.seated.members.each };
+        soft = laid.seated.soft;
+      };
       summed = subst (λ (l : List IfaceId). IsSummed lab w l c.make.new.self) (sym made) c.make.ensures.summed;
       idle = laid.idle;
     }

@@ -1,5 +1,6 @@
 use Rattle.std.proofs.Common.{sym, subst}
 use Rattle.virt_topo.specs.declared.mapping.Mapping.{Mapping}
+use Rattle.virt_topo.proofs.CableLaws.{sound_keeps}
 use Rattle.lab_model.specs.Shapes.{IsShaped}
 use Rattle.node_maps.specs.NodeMaps.{candidates, IsChoice}
 use Rattle.map_board.proofs.board.Board.laid.Goals as goal
@@ -8,6 +9,9 @@ pub of-requires-clause-shaped : goal.of-requires-clause-shaped
 of-requires-clause-shaped c =
     let x = c.args.setting.now.mapper in
     subst (λ (y : Mapping). IsShaped x.lab.now x.wiring.now y) (sym c.in_ok-mapping.ensures) c.requires.shaped
+
+pub of-requires-2-clause-limits : goal.of-requires-2-clause-limits
+of-requires-2-clause-limits c = sound_keeps c.args.setting.now.mapper.wiring.now c.requires.setting.mapper.sound
 
 pub of-requires-2-clause-plugged : goal.of-requires-2-clause-plugged
 of-requires-2-clause-plugged c =

@@ -47,7 +47,7 @@ leave-requires-clause-used c = λ alone.
 
 pub join-requires-clause-few_nodes : goal.join-requires-clause-few_nodes
 join-requires-clause-few_nodes c =
-    let few = nodes_small c.args.lab.now c.args._wiring.now c.args.mapping.now c.requires.sound c.requires.shaped in
+    let few = nodes_small c.args.lab.now c.args.wiring.now c.args.mapping.now c.requires.sound c.requires.shaped in
     let nodes = c.requires.seated.nodes in
     let left = c.leave.ensures.nodes in
     omega (arith, few, nodes, left)

@@ -5,10 +5,15 @@ use Rattle.lab_model.specs.Shapes.{Place, IsShaped}
 use Rattle.lab_model.specs.Rules.{no_place}
 use Rattle.cost_rule.specs.Cost.{soft_at, node_soft}
 use Rattle.cost_rule.proofs.PartLaws.{soft_small}
+use Rattle.map_board.specs.Members.{AreMembers}
 use Rattle.map_board.specs.Seated.{IsSeated, asked_soft, placed_at}
 use Rattle.map_board.proofs.BoardLaws.{shaped_at}
 use Rattle.map_board.proofs.SeatLaws.{soft_after}
 use Rattle.map_board.proofs.seats.Seats.seat.Goals as goal
+
+-- the counts are those of the mapping with the new place
+pub type_soft-lost-requires-clause-counted : goal.type_soft-lost-requires-clause-counted
+type_soft-lost-requires-clause-counted c = subst (λ (y : Mapping). AreMembers c.args.wiring.now y c.go.new.self.members) (sym c.go.ensures.mapping) c.go.ensures.members
 
 pub changed-self-requires-clause-small : goal.changed-self-requires-clause-small
 changed-self-requires-clause-small c =
@@ -57,9 +62,10 @@ returns-clause-seated c =
     let soft = c.requires.seated.soft in
     let kept = c.go.ensures.soft in
     let sum = c.changed-self.ensures in
-    subst (λ (y : Mapping). IsSeated lab w y (record { guests = c.go.new.self.guests; nodes = c.go.new.self.nodes; soft = c.changed-self.result })) (sym c.go.ensures.mapping) (record {
+    subst (λ (y : Mapping). IsSeated lab w y (record { guests = c.go.new.self.guests; nodes = c.go.new.self.nodes; members = c.go.new.self.members; soft = c.changed-self.result })) (sym c.go.ensures.mapping) (record {
       one_each = c.go.ensures.one_each;
       guests = c.go.ensures.guests;
       nodes = c.go.ensures.nodes;
+      members = c.go.ensures.members;
       soft = omega (arith, law, before, gained, after, lost, soft, kept, sum);
     })

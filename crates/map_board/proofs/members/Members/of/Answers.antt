@@ -1,0 +1,53 @@
+use Rattle.std.proofs.Common.{◌≡◌, ◌<◌, ◌∙◌, Option, ℕ, length, ap, sym, arith}
+use Rattle.virt_topo.specs.Wirings.{virt_at}
+use Rattle.virt_topo.proofs.CableLaws.{sound_limits}
+use Rattle.lab_model.specs.Rules.{place_at}
+use Rattle.map_board.specs.Members.{one_at}
+use Rattle.map_board.proofs.MemberLaws.{counts, if_some, asked_there, counted_at, members_few, members_step, members_end}
+use Rattle.map_board.proofs.members.Members.of.Goals as goal
+
+pub join-requires-clause-few : goal.join-requires-clause-few
+join-requires-clause-few c = if_some c.own_place.result (λ n is.
+    let w = c.args.wiring.now in
+    let m = c.args.mapping.now in
+    let v = c.loop-virt.virt in
+    let kind = (place_at m v).1 in
+    let there = asked_there w (virt_at w v).asks kind n (sym c.own_place.ensures.is ∙ is) in
+    let so_far = c.loop-virt.invariant.each there.class n kind there.within there.place in
+    let few = members_few there.class kind w.nodes m.places in
+    let nodes = (sound_limits w c.requires.sound).nodes in
+    omega (arith, so_far, few, nodes))
+
+pub loop-virt-preserved : goal.loop-virt-preserved
+loop-virt-preserved c =
+    let w = c.args.wiring.now in
+    let m = c.args.mapping.now in
+    let v = c.loop-virt.virt in
+    let asks = (virt_at w v).asks in
+    let kind_of = (place_at m v).1 in
+    let lt : v < length w.nodes = omega (arith, c.loop-virt-test.true, c.len-virt-end.ensures) in
+    let all = c.requires.placed in
+    record {
+      room = c.join.ensures.room ∙ c.loop-virt.invariant.room;
+      each = λ d n kind d_lt is.
+          let joined = c.join.ensures.counts n in
+          let at : one_at c.own_place.result n ≡ counts d kind asks kind_of = ap (λ (o : Option ℕ). one_at o n) c.own_place.ensures.is ∙ counted_at w d n kind asks kind_of c.requires.sound d_lt is in
+          let step = members_step w m d v kind lt (omega (arith, lt, all)) in
+          let so_far = c.loop-virt.invariant.each d n kind d_lt is in
+          omega (arith, joined, at, step, so_far);
+    }
+
+pub returns : goal.returns
+returns c =
+    let w = c.args.wiring.now in
+    let m = c.args.mapping.now in
+    let v = c.loop-virt.virt in
+    let end = c.loop-virt-test.false in
+    let nodes = c.len-virt-end.ensures in
+    record {
+      room = c.loop-virt.invariant.room;
+      each = λ d n kind d_lt is.
+          let so_far = c.loop-virt.invariant.each d n kind d_lt is in
+          let none = members_end w m d v kind (omega (arith, end, nodes)) in
+          omega (arith, so_far, none);
+    }
