@@ -1,8 +1,10 @@
-use Rattle.std.proofs.Common.{length, ap, add-one, arith}
+use Rattle.std.proofs.Common.{◌≡◌, ◌*◌, ℕ, length, ap, subst, add-one, arith}
 use Rattle.virt_topo.proofs.CableLaws.{sound_limits}
 use Rattle.node_maps.proofs.MapLaws.{candidates_count}
 use Rattle.map_anneal.specs.Searches.{sought_of}
+use Rattle.map_anneal.specs.Sought.{choices}
 use Rattle.map_anneal.specs.Walk.{tries}
+use Rattle.map_anneal.specs.Walks.{Keeps}
 use Rattle.map_anneal.proofs.walk.Walk.round.Goals as goal
 
 pub overflow_mul-tries : goal.overflow_mul-tries
@@ -22,3 +24,10 @@ loop-number-preserved g c =
       walk = c.in_ok-step.ensures.walk;
       keeps = λ x k. rw add-one (c.in_ok-step.ensures.step (tries s c.args.heat c.loop-number._number x) (c.loop-number.invariant.keeps x k));
     }
+
+pub returns-clause-round : goal.returns-clause-round
+returns-clause-round g c = λ x k.
+    let s = sought_of c.args.moves.now c.args.rule.now.number in
+    let listed = ap length c.requires.moves.listed in
+    let all : c.loop-number._number ≡ 8 * length (choices s) = omega (arith, c.len-tries.ensures, listed, c.loop-number-test.false, c.loop-number.auto._number-end) in
+    subst (λ (n : ℕ). Keeps s c.loop-number.self (tries s c.args.heat n x)) all (c.loop-number.invariant.keeps x k)
