@@ -1,13 +1,12 @@
-ghost use Rattle.std.specs.Prelude.{◌≡◌, ◌↔◌, ◌<◌, ◌≤◌, ◌+◌, ◌*◌, ℕ, List, [], count_by, take, length, if◌then◌else◌, false, true, None, IfOk, IfSome, IsErrOf, IsTrue, slice_get, Err, Some};
+ghost use Rattle.std.specs.Prelude.{◌≡◌, ◌↔◌, ◌<◌, ◌≤◌, ◌+◌, ◌*◌, ℕ, List, [], count_by, take, length, if◌then◌else◌, false, None, IfOk, IfSome, IsErrOf, IsTrue, slice_get, Err, Some};
 ghost use Rattle.lab_base.specs.Counts.{Rose};
 ghost use Rattle.plant.specs.Disks.{disk};
-ghost use Rattle.plant.specs.Events.{Event};
-ghost use Rattle.plant.specs.Told.{with_steps};
+
 ghost use Rattle.plant.specs.declared.step.Side.{Side as AnySide};
 ghost use Rattle.plant.specs.declared.step.Side.TheVariants.{A, B};
 ghost use Rattle.journal_rec.specs.declared.record.Found.{Found as AnyFound};
 ghost use Rattle.journal_rec.specs.declared.record.Record.{Record as AnyRecord};
-ghost use Rattle.journal_disk.specs.Standing.{limit_of, length_of, Holds};
+ghost use Rattle.journal_disk.specs.Standing.{limit_of, Holds};
 ghost use Rattle.lab_model.specs.Sound.{is_moving};
 ghost use Rattle.script_text.specs.Drills.{drill_of};
 ghost use Rattle.script_text.specs.Blocks.{HasBlocks};

@@ -1,6 +1,6 @@
 // Judging a command.
-ghost use Rattle.std.specs.Prelude.{◌≡◌, ◌<◌, ◌≤◌, None, IfOk, OnErr, Result, false, length, true};
-ghost use Rattle.lab_base.specs.declared.fault.TextFault.{TextFault as AnyTextFault};
+ghost use Rattle.std.specs.Prelude.{◌≡◌, ◌<◌, ◌≤◌, None, IfOk, Result, false, length, true};
+
 ghost use Rattle.lab_base.specs.declared.fault.TextRefused.TheVariants as refusals;
 ghost use Rattle.script_text.specs.Drills.{drill_of};
 ghost use Rattle.script_text.specs.declared.reply.Reply.TheVariants as replies;
@@ -12,7 +12,7 @@ ghost use Rattle.records_model.specs.Labs.{LabState as AnyLabState};
 ghost use Rattle.script_text.specs.declared.reply.Reply.{Reply as AnyReply};
 ghost use Rattle.lab_judge.specs.Judge.{is_unjudged, Task as AnyTask, Judged, JudgedCreate, in_slot, judged_create_top, judged_delete, judged_finish, judged_ptop, judged_recover, judged_show, judged_status, judged_swapout, judged_turn, judged_wiring, need_place};
 ghost use Rattle.lab_judge.specs.OpenNames.{has_open, has_open_for};
-ghost use Rattle.lab_judge.specs.Tasks.{CanDo, Gives, IsJudged, IsMild, Refuses, IsRefusedBy};
+ghost use Rattle.lab_judge.specs.Tasks.{CanDo, Gives, IsJudged, IsRefusedBy};
 
 use crate::case::Present;
 use crate::change::judge_modify_with;

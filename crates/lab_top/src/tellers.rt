@@ -1,5 +1,5 @@
 // Tellers, which take the reply to each command.
-ghost use Rattle.std.specs.Prelude.{◌≡◌, ◌≤◌, ℕ, List, Option, IsErrOf, OnOk};
+ghost use Rattle.std.specs.Prelude.{◌≤◌, ℕ, List, Option, IsErrOf, OnOk};
 ghost use Rattle.lab_base.specs.Counts.{Rose};
 ghost use Rattle.script_text.specs.Replies.{text_of};
 ghost use Rattle.script_text.specs.declared.reply.Reply.{Reply as AnyReply};

@@ -1,5 +1,5 @@
 // Known moves and exchanges, followed from one map to the next.
-ghost use Rattle.std.specs.Prelude.{◌≡◌, ◌<◌, ℕ, true, false, List, [], map, length, slice_index_or, slice_set, IfOk, OnOk};
+ghost use Rattle.std.specs.Prelude.{◌≡◌, ◌<◌, ℕ, true, false, map, length, slice_index_or, IfOk, OnOk};
 ghost use Rattle.lab_model.specs.Rules.{is_member, place_at};
 ghost use Rattle.virt_topo.specs.Wirings.{virt_at};
 ghost use Rattle.map_anneal.specs.Sought.{IsNodeMap};

@@ -4,7 +4,7 @@ ghost use Rattle.node_maps.specs.Least.{IsFirstLeast};
 ghost use Rattle.virt_topo.specs.Soundness.{IsSound};
 ghost use Rattle.lab_model.specs.Shapes.{IsFreeOf};
 ghost use Rattle.map_anneal.specs.Sought.{sought, choices, price, IsNodeMap};
-ghost use Rattle.map_anneal.specs.Searches.{sought_of, priced_by, IsMoves, IsPriced, IsTried};
+ghost use Rattle.map_anneal.specs.Searches.{sought_of, priced_by, IsMoves, IsPriced};
 ghost use Rattle.map_anneal.specs.Walk.{drawn, one_try, round, cooled, walk as walk_of, Walker};
 
 use crate::moves::Moves;

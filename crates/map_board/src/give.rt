@@ -1,5 +1,5 @@
 // The interfaces of the ends on one node.
-ghost use Rattle.std.specs.Prelude.{◌≡◌, true, false, ◌<◌, ◌≤◌, ◌++◌, ◌==◌, [], map, length, slice_index_or, Some, None, if◌then◌else◌, filter, ◌&&◌, All, IfOk, OnOk};
+ghost use Rattle.std.specs.Prelude.{◌≡◌, true, false, ◌<◌, ◌≤◌, ◌++◌, ◌==◌, map, length, slice_index_or, Some, None, if◌then◌else◌, filter, ◌&&◌, All, IfOk, OnOk};
 ghost use Rattle.lab_model.specs.Shapes.{IsShaped};
 ghost use Rattle.lab_model.specs.Rules.{no_place};
 ghost use Rattle.node_maps.specs.NodeMaps.{plugs_from};

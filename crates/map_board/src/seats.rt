@@ -1,5 +1,5 @@
 // The counts kept by place of a mapping.
-ghost use Rattle.std.specs.Prelude.{◌≡◌, ◌<◌, ◌≤◌, ◌+◌, ◌-◌, ◌==◌, ℕ, length, slice_index_or, slice_set, if◌then◌else◌, IfOk, OnOk, All, true};
+ghost use Rattle.std.specs.Prelude.{◌≡◌, ◌<◌, ◌≤◌, ◌+◌, ◌-◌, ◌==◌, ℕ, length, slice_index_or, slice_set, if◌then◌else◌, IfOk, All, true};
 ghost use Rattle.virt_topo.specs.Soundness.{IsSound};
 ghost use Rattle.cost_rule.specs.Cost.{nodes_in_use, soft as soft_in};
 ghost use Rattle.lab_model.specs.Shapes.{IsShaped, node_at, has_name};

@@ -1,5 +1,5 @@
 // The ends on one node given anew, whatever is on the others.
-ghost use Rattle.std.specs.Prelude.{◌≡◌, ◌≢◌, ◌<◌, ◌↔◌, ◌&&◌, ℕ, List, true, false, [], nat_le, length, Some, None, if◌then◌else◌, IfOk, OnOk, IsTrue};
+ghost use Rattle.std.specs.Prelude.{◌≡◌, ◌≢◌, ◌<◌, ◌↔◌, ◌&&◌, ℕ, List, true, false, length, Some, None, if◌then◌else◌, IfOk, OnOk, IsTrue};
 ghost use Rattle.lab_model.specs.Shapes.{Place as PlaceSeen};
 ghost use Rattle.lab_model.specs.Rules.{keeps_f7, keeps_f8};
 ghost use Rattle.lab_model.specs.Feasible.{AllPass};

@@ -1,5 +1,5 @@
 // Tables for tries.
-ghost use Rattle.std.specs.Prelude.{◌≡◌, ◌<◌, ◌≤◌, ◌==◌, ◌++◌, ℕ, true, false, [], length, replicate, IfOk, OnOk, IsTrue, IsFalse};
+ghost use Rattle.std.specs.Prelude.{◌≡◌, ◌<◌, ◌≤◌, ◌==◌, ◌++◌, ℕ, true, false, length, replicate, IfOk, OnOk, IsTrue, IsFalse};
 ghost use Rattle.phys_lab.specs.Sides.{joined};
 ghost use Rattle.virt_topo.specs.Soundness.{IsSound};
 ghost use Rattle.node_maps.specs.NodeMaps.{ends_of};
