@@ -1,6 +1,7 @@
 //! Runs the rows that standard input lists, one a line, and prints behind each line its output. A line in brackets tells the kind of the rows
-//! below it. Rows of `[texts]`, `[labs]` and `[layers]` are of the crates of these names. Rows of `[searches]` are of searches and the outlook over
-//! files, and rows of `[scripts]` of the whole program. The module `row` lists the forms of the last kind.
+//! below it. Rows of `[texts]`, `[labs]`, `[layers]` and `[searches]` are of the libraries `text_rows`, `lab_rows`, `layer_rows` and `search_rows`.
+//! The last two words of a row of the last of these name files, of which it has the texts. Rows of `[scripts]` are of the whole program. The module
+//! `row` lists their forms.
 //!
 //! The scripts and the other files that lines name lie in the folder where this runs. Those of `demo` must equal the files of the
 //! repository's folder of that name, which users run.
@@ -15,7 +16,6 @@ mod numbers;
 mod orders;
 mod row;
 mod run;
-mod searches;
 mod sides;
 
 use anyhow::{anyhow, bail};
@@ -23,7 +23,7 @@ use lab_base::Text;
 use lab_rows::Texts;
 use plant_mem::MemLab;
 use row_words::Untold;
-use std::str;
+use std::{fs, str};
 
 /// The kinds of rows.
 #[derive(Clone, Copy)]
@@ -69,6 +69,20 @@ fn tell_lab(rt: &HostRuntime, texts: &mut Texts, line: &str) -> anyhow::Result<(
     }
 }
 
+/// Prints a row of a search, whose last two words are files.
+fn tell_search(rt: &HostRuntime, line: &str) -> anyhow::Result<()> {
+    let words: Vec<&str> = line.split_whitespace().collect(rt.alloc())?;
+    let [kind, times, ptop, text] = *words.as_slice() else {
+        bail!("no such row: {line}");
+    };
+    let (ptop, text) = (fs::read(rt, ptop)?, fs::read(rt, text)?);
+    tell_row(
+        rt,
+        line,
+        search_rows::told(rt.alloc(), kind, times, &ptop, &text),
+    )
+}
+
 fn tell_script(rt: &HostRuntime, last: &mut Option<MemLab>, line: &str) -> anyhow::Result<()> {
     let told = row::told(rt, line, last)?;
     Ok(print!(rt; "== {line}\n{told}")?)
@@ -86,7 +100,7 @@ fn tell(
         Some(Of::Texts) => tell_row(rt, line, text_rows::told(rt.alloc(), line)),
         Some(Of::Labs) => tell_lab(rt, texts, line),
         Some(Of::Layers) => tell_row(rt, line, layer_rows::told(rt.alloc(), line)),
-        Some(Of::Searches) => searches::tell(rt, line),
+        Some(Of::Searches) => tell_search(rt, line),
         Some(Of::Scripts) => tell_script(rt, last, line),
         None => Err(anyhow!("no line says of what this is: {line}")),
     }

@@ -4,7 +4,7 @@ use Rattle.lab_base.specs.declared.ids.NodeId.{NodeId}
 use Rattle.lab_base.specs.Lists.{Has, AllDiffer}
 use Rattle.lab_base.proofs.Members.{Has-append}
 use Rattle.phys_lab.proofs.KeptLaws.{at_end}
-use Rattle.rows.proofs.searches.ahead.all_nodes.Goals as goal
+use Rattle.search_rows.proofs.ahead.all_nodes.Goals as goal
 
 pub loop-n-preserved : goal.loop-n-preserved
 loop-n-preserved c =

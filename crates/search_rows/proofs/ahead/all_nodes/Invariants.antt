@@ -1,7 +1,7 @@
 use Rattle.std.proofs.Common.{◌<◌, All, length}
 use Rattle.lab_base.specs.declared.ids.NodeId.{NodeId}
 use Rattle.lab_base.specs.Lists.{Has, AllDiffer}
-use Rattle.rows.proofs.searches.ahead.all_nodes.Given as goal
+use Rattle.search_rows.proofs.ahead.all_nodes.Given as goal
 
 abbrev pub invariant-loop-n : goal.invariant-loop-n
 invariant-loop-n l = record {

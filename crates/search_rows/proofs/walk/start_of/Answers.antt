@@ -3,13 +3,13 @@ use Rattle.virt_topo.specs.declared.mapping.Mapping.{Mapping}
 use Rattle.node_maps.specs.NodeMaps.{candidates, IsChoice}
 use Rattle.node_maps.proofs.MapLaws.{choice_within, mapped_shaped}
 use Rattle.assign_core.proofs.Firsts.{first_fit_mapped}
-use Rattle.rows.proofs.searches.walk.start_of.Goals as goal
+use Rattle.search_rows.proofs.walk.start_of.Goals as goal
 
 pub returns-clause-shaped : goal.returns-clause-shaped
 returns-clause-shaped g c =
-    let lab = c.args.problem.now.lab in
-    let free = c.args.problem.now.free in
-    let w = c.args.problem.now.wiring in
+    let lab = c.args.problem.now.lab.now in
+    let free = c.args.problem.now.free.now in
+    let w = c.args.problem.now.wiring.now in
     let start = c.in-Ok-Some.start in
     let P : Option Mapping → Type 0 = λ o. IfSome o (λ m. IsChoice (candidates lab free w) m.places) in
     let is = choice_within lab free w start.places (subst P c.in-Ok-Some.field-0-is c.in-Ok-Some.ensures.choice) in
@@ -17,9 +17,9 @@ returns-clause-shaped g c =
 
 pub returns-clause-start : goal.returns-clause-start
 returns-clause-start g c =
-    let lab = c.args.problem.now.lab in
-    let free = c.args.problem.now.free in
-    let w = c.args.problem.now.wiring in
+    let lab = c.args.problem.now.lab.now in
+    let free = c.args.problem.now.free.now in
+    let w = c.args.problem.now.wiring.now in
     let P : Option Mapping → Type 0 = λ o. IfSome o (λ m. IsChoice (candidates lab free w) m.places) in
     record {
       choice = subst P c.in-Ok-Some.field-0-is c.in-Ok-Some.ensures.choice;
