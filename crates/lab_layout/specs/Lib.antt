@@ -1,1 +1,9 @@
+pub mod Cells
+pub mod Columns
+pub mod Heights
 pub mod Laid
+pub mod Lists
+pub mod Measures
+pub mod Reaches
+pub mod Rows
+pub mod Tops

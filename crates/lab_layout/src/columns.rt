@@ -1,5 +1,8 @@
 // The columns of switches, from left to right.
-ghost use Rattle.std.specs.Prelude.{◌≤◌};
+ghost use Rattle.std.specs.Prelude.{◌≡◌, length, replicate, IfOk};
+ghost use Rattle.lab_layout.specs.Measures.{none};
+ghost use Rattle.lab_layout.specs.Columns.{digits, card_width, label_width, lanes, lane};
+ghost use Rattle.lab_layout.specs.Rows.{under};
 
 use crate::layout::Plan;
 use crate::px::{Px, at, widen, width};
@@ -43,7 +46,7 @@ impl Columns {
 
 /// How many digits the number of some machines has, of which a lab has at most 1,024.
 fn digits(number: usize) -> usize
-    ensures { result ≤ 4 }
+    ensures { result ≡ digits number }
 {
     if number < 10 {
         1
@@ -57,7 +60,10 @@ fn digits(number: usize) -> usize
 }
 
 /// The width of a switch's card: its name, and `9 of 24 free`.
-fn card_width(view: &View, rows: &Rows, switch: usize) -> Px {
+#[tactic(auto, unfolding(crate::specs::Columns::card_width, crate::specs::Measures::pixels))]
+fn card_width(view: &View, rows: &Rows, switch: usize) -> Px
+    ensures { result.0 ≡ card_width view.now (length (under rows.now switch)) switch }
+{
     let letters = match view.switches.as_slice().get(switch) {
         Some(name) => name.bytes().len(),
         None => 0,
@@ -67,7 +73,10 @@ fn card_width(view: &View, rows: &Rows, switch: usize) -> Px {
 }
 
 /// The width of a trunk's labels, its name's and its use's.
-fn label_width(view: &View, trunk: usize) -> Px {
+#[tactic(auto, unfolding(crate::specs::Columns::label_width, crate::specs::Measures::pixels))]
+fn label_width(view: &View, trunk: usize) -> Px
+    ensures { result.0 ≡ label_width view.now trunk }
+{
     let letters = match view.trunks.as_slice().get(trunk) {
         Some(trunk) => trunk.link.bytes().len(),
         None => 0,
@@ -76,18 +85,26 @@ fn label_width(view: &View, trunk: usize) -> Px {
 }
 
 /// How many lanes the trunks of so many slots need: the upper half runs up, the lower one down.
-fn lanes(slots: usize) -> u64 {
+fn lanes(slots: usize) -> u64
+    ensures { result ≡ lanes slots }
+{
     slots.div_ceil(2) as u64
 }
 
 /// How wide a lane is behind a card with so many slots.
-pub(crate) fn lane_of(slots: usize) -> Px {
+#[tactic(auto, unfolding(crate::specs::Columns::lane))]
+pub(crate) fn lane_of(slots: usize) -> Px
+    ensures { result.0 ≡ lane slots }
+{
     (LANES / lanes(slots)).max(Px(3)).min(LANE)
 }
 
-fn bare(alloc: Global, count: usize) -> Result<Vec<Px>, Memory> {
+/// A list of so many measures of 0.
+pub(crate) fn bare(alloc: Global, count: usize) -> Result<Vec<Px>, Memory>
+    ensures { IfOk result (λ list. list.items ≡ replicate count none) }
+{
     let mut list = Vec::new(alloc);
-    for _ in 0..count {
+    for _number in 0..count {
         list.push(Px(0))?;
     }
     Ok(list)

@@ -1,13 +1,16 @@
 // Where everything stands in the picture of a lab.
-ghost use Rattle.std.specs.Prelude.{◌≡◌, length, is_some, IfOk};
+ghost use Rattle.std.specs.Prelude.{◌≡◌, ◌≤◌, ◌/◌, length, map, replicate, is_some, IfOk, IfSome};
 ghost use Rattle.lab_view.specs.Lines.{has_lone};
-ghost use Rattle.lab_layout.specs.Laid.{IsLaid};
+ghost use Rattle.lab_layout.specs.Laid.{IsLaid, AreApart};
+ghost use Rattle.lab_layout.specs.Heights.{cell_width};
+ghost use Rattle.lab_layout.specs.Cells.{no_place, card_of, cell_of, with_band, cells_of, lone_at};
 
 use crate::apart::set_apart;
 use crate::columns::{BESIDE, MARGIN};
 use crate::layout::{
     CELL_HIGH, GAP, Layout, Plan, Slot, Spot, cell_width, head_high, head_scale, layout_of,
 };
+use crate::limits::MAX_CELLS;
 use crate::lists::{entries_of, lists_high, marks_of, second};
 use crate::px::{Place, Px};
 use crate::rows::Rows;
@@ -28,7 +31,8 @@ fn off(layout: &Layout, view: &View) -> Px {
 
 /// The layout whose picture is nearest to a sheet of paper on its side.
 fn best_layout(alloc: Global, plan: Plan<'_>) -> Result<Layout, Memory>
-    ensures { IfOk result (λ layout. length layout.spots.items ≡ length plan.entry.view.now.switches) }
+    ensures spots { IfOk result (λ layout. length layout.spots.items ≡ length plan.entry.view.now.switches) }
+    ensures cell { IfOk result (λ layout. layout.cell.0 ≡ cell_width plan.entry.view.now) }
 {
     let cell = cell_width(plan.view);
     let mut best = layout_of(alloc, plan, cell, 4)?;
@@ -45,7 +49,10 @@ fn best_layout(alloc: Global, plan: Plan<'_>) -> Result<Layout, Memory>
 }
 
 /// The card in a box, with its words.
-fn card_of(place: Place) -> Card {
+#[tactic(auto, unfolding(crate::specs::Cells::card_of))]
+fn card_of(place: Place) -> Card
+    ensures { result ≡ card_of place }
+{
     Card {
         place: small(place),
         words: Point {
@@ -57,7 +64,7 @@ fn card_of(place: Place) -> Card {
 
 /// The second card of a switch that has both machines and further switches.
 fn echo_of(layout: &Layout, spot: &Spot) -> Option<Echo> {
-    for (number, slot) in spot.slots.iter().enumerate() {
+    for (number, slot) in spot.slots.as_slice().iter().enumerate() {
         if *slot == Slot::Own {
             let middle = spot.band.y + spot.band.high / 2;
             let place = Place {
@@ -144,7 +151,7 @@ impl Trunks {
         ensures lines { length self.new.lines.items ≡ length self.old.lines.items }
         ensures labels { length self.new.labels.items ≡ length self.old.labels.items }
     {
-        for (number, slot) in spot.slots.iter().enumerate() {
+        for (number, slot) in spot.slots.as_slice().iter().enumerate() {
             if let Slot::Child(child) = *slot {
                 let way = way_of(layout, spot, number, *slot);
                 self.note(plan, layout, child, way);
@@ -164,19 +171,29 @@ fn trunks_of(alloc: Global, plan: Plan<'_>, layout: &Layout) -> Result<Trunks, M
     Ok(trunks)
 }
 
-/// Where the machine with so many before it stands in a band with rows of so many.
-fn cell_of(band: Place, columns: usize, cell: Px, number: usize) -> Place {
-    let row = match number.checked_div(columns) {
+/// The row of the machine with so many before it; the first one where rows have none.
+fn row_of(number: usize, columns: usize) -> usize
+    ensures { result ≡ number / columns }
+{
+    match number.checked_div(columns) {
         Some(row) => row,
         None => 0,
-    };
+    }
+}
+
+/// Where the machine with so many before it stands in a band with rows of so many.
+#[tactic(auto, using(crate::proofs::Sums::within_row), unfolding(crate::specs::Cells::cell_of, crate::specs::Measures::pixels))]
+fn cell_of(band: Place, columns: usize, cell: Px, number: usize) -> lab_picture::Place
+    ensures { result ≡ cell_of band columns cell.0 number }
+{
+    let row = row_of(number, columns);
     let column = number.saturating_sub(row.saturating_mul(columns));
-    Place {
+    small(Place {
         x: band.x + (cell + GAP) * column as u64,
         y: band.y + (CELL_HIGH + GAP) * row as u64,
         wide: cell,
         high: CELL_HIGH,
-    }
+    })
 }
 
 /// Notes where the machines of a band stand.
@@ -186,10 +203,12 @@ fn note_cells(
     band: Place,
     columns: usize,
     cell: Px,
-) {
+)
+    ensures { cells.new ≡ with_band band columns cell.0 cells.old numbers.now }
+{
     for (at, number) in numbers.iter().enumerate() {
-        if let Some(own) = cells.get_mut(*number) {
-            *own = small(cell_of(band, columns, cell, at));
+        if *number < cells.len() {
+            cells[*number] = cell_of(band, columns, cell, at);
         }
     }
 }
@@ -202,7 +221,7 @@ const NOWHERE: lab_picture::Place = lab_picture::Place {
 };
 
 fn bare_cells(alloc: Global, count: usize) -> Result<Vec<lab_picture::Place>, Memory>
-    ensures { IfOk result (λ cells. length cells.items ≡ count) }
+    ensures { IfOk result (λ cells. cells.items ≡ replicate count no_place) }
 {
     let mut cells = Vec::new(alloc);
     for _number in 0..count {
@@ -217,7 +236,8 @@ fn cells_of(
     plan: Plan<'_>,
     layout: &Layout,
 ) -> Result<Items<lab_picture::Place>, Memory>
-    ensures { IfOk result (λ cells. length cells ≡ length plan.entry.view.now.machines) }
+    ensures len { IfOk result (λ cells. length cells ≡ length plan.entry.view.now.machines) }
+    ensures cells { IfOk result (λ cells. cells ≡ cells_of plan.entry.rows.now layout.now (length plan.entry.view.now.machines)) }
 {
     let mut cells = bare_cells(alloc, plan.view.machines.len())?;
     for (switch, spot) in layout.spots.iter().enumerate() {
@@ -239,8 +259,23 @@ fn cells_of(
     Ok(Items::from_vec(cells))
 }
 
+/// By machine its box, where no two overlap.
+fn cells_apart(
+    alloc: Global,
+    plan: Plan<'_>,
+    layout: &Layout,
+) -> Result<Items<lab_picture::Place>, Memory>
+    ensures len { IfOk result (λ cells. length cells ≡ length plan.entry.view.now.machines) }
+    ensures apart { IfOk result (λ cells. length plan.entry.view.now.machines ≤ MAX_CELLS → AreApart cells) }
+{
+    let cells = cells_of(alloc, plan, layout)?;
+    let apart = set_apart(alloc, cells)?;
+    Ok(apart)
+}
+
 fn cards_of(alloc: Global, layout: &Layout) -> Result<Items<Card>, Memory>
-    ensures { IfOk result (λ cards. length cards ≡ length layout.now.spots.items) }
+    ensures len { IfOk result (λ cards. length cards ≡ length layout.now.spots.items) }
+    ensures cards { IfOk result (λ cards. cards ≡ map (λ p. card_of p.card) layout.now.spots.items) }
 {
     let mut cards = Items::new(alloc);
     for spot in layout.spots.iter() {
@@ -261,7 +296,8 @@ fn echoes_of(alloc: Global, layout: &Layout) -> Result<Items<Option<Echo>>, Memo
 
 /// Where the heading of machines without an interface stands.
 fn lone_of(plan: Plan<'_>, layout: &Layout) -> Option<Point>
-    ensures { is_some result ≡ has_lone plan.entry.view.now }
+    ensures some { is_some result ≡ has_lone plan.entry.view.now }
+    ensures at { IfSome result (λ p. p ≡ lone_at layout.now) }
 {
     if plan.rows.lone.is_empty() {
         return None;
@@ -287,7 +323,7 @@ fn drawn(alloc: Global, plan: Plan<'_>, layout: &Layout) -> Result<Geometry, Mem
         wide: across,
         high: Px(14),
     });
-    let cells = set_apart(alloc, cells_of(alloc, plan, layout)?)?;
+    let cells = cells_apart(alloc, plan, layout)?;
     let cards = cards_of(alloc, layout)?;
     let echoes = echoes_of(alloc, layout)?;
     let entries = entries_of(alloc, view, wide, top)?;
@@ -295,11 +331,13 @@ fn drawn(alloc: Global, plan: Plan<'_>, layout: &Layout) -> Result<Geometry, Mem
         wide: wide.0,
         high: (layout.high + lists_high(view, wide)).0,
     }
-    .over(strip)
-    .over_all(cells.as_slice())
-    .over_cards(cards.as_slice())
-    .over_echoes(echoes.as_slice())
-    .over_points(entries.as_slice());
+    .over_picture(
+        strip,
+        cells.as_slice(),
+        cards.as_slice(),
+        echoes.as_slice(),
+        entries.as_slice(),
+    );
     Ok(Geometry {
         wide: reach.wide,
         high: reach.high,

@@ -1,13 +1,17 @@
 // Where everything stands.
-ghost use Rattle.std.specs.Prelude.{◌≡◌, nat_lt, length, IfOk, OnOk, vec_len};
+ghost use Rattle.std.specs.Prelude.{◌≡◌, ◌<◌, nat_lt, length, position, slice_get, slice_set, IfOk, OnOk, Some};
+ghost use Rattle.lab_layout.specs.declared.layout.Spot.{Spot as AnySpot};
 ghost use Rattle.lab_view.specs.Lines.{has_lone};
+ghost use Rattle.lab_layout.specs.Heights.{head_scale, head_high, cell_width, machine_wide, held_wide, machines_wide, columns_for, rows_high};
+ghost use Rattle.lab_layout.specs.Heights.{card_in, block_in, slot_high, heights, own_high, block_of, with_block, measured};
+ghost use Rattle.lab_layout.specs.Tops.{is_own, first_top, own_top, put_spot, with_put, with_top, hung, rooted, all_put, IsAllPut};
 
-use crate::columns::{BESIDE, Columns, MARGIN, PORT, columns_of_lab};
+use crate::columns::{BESIDE, Columns, MARGIN, PORT, bare, columns_of_lab};
 use crate::limits::{LEAST_HIGH, LEAST_WIDE};
-use crate::px::{Place, Px, at, nowhere, width};
+use crate::px::{Place, Px, at, nowhere, set_at, width};
 use crate::rows::Rows;
 use crate::tree::Forest;
-use lab_base::Memory;
+use lab_base::{Items, Memory};
 use lab_view::View;
 use std::alloc::Global;
 
@@ -27,11 +31,17 @@ const BAND: Px = Px(48);
 const CARD: Px = Px(42);
 
 /// How large the title and the key are in a picture of that width, in tenths of their least size: they grow half as fast as it.
-pub(crate) fn head_scale(wide: Px) -> u64 {
+#[tactic(auto, unfolding(crate::specs::Measures::pixels))]
+pub(crate) fn head_scale(wide: Px) -> u64
+    ensures { result ≡ head_scale wide.0 }
+{
     (Px(5) + wide * 5 / LEAST.0).max(Px(10)).min(Px(24)).0
 }
 
-pub(crate) fn head_high(wide: Px) -> Px {
+#[tactic(auto, unfolding(crate::specs::Measures::pixels))]
+pub(crate) fn head_high(wide: Px) -> Px
+    ensures { result.0 ≡ head_high wide.0 }
+{
     HEAD * head_scale(wide) / 10
 }
 
@@ -50,7 +60,7 @@ pub(crate) struct Spot {
     /// Its machines.
     pub(crate) band: Place,
     pub(crate) columns: usize,
-    pub(crate) slots: Vec<Slot>,
+    pub(crate) slots: Items<Slot>,
     /// All that hangs on it.
     block: Px,
 }
@@ -78,29 +88,59 @@ pub(crate) struct Plan<'a> {
     pub(crate) ghost lone: { nat_lt 0 (length rows.now.lone.items) ≡ has_lone view.now },
 }
 
-/// The width of a machine: its name, at least 9 letters, and the names of experiments up to 12 letters.
-pub(crate) fn cell_width(view: &View) -> Px {
+/// The width of a machine by its name.
+fn machine_wide(letters: usize) -> Px
+    ensures { result.0 ≡ machine_wide letters }
+{
+    width(letters, 105) + 22
+}
+
+/// The width of a machine by the name of an experiment, of which it shows up to 12 letters.
+#[tactic(auto, unfolding(crate::specs::Measures::pixels))]
+fn held_wide(letters: usize) -> Px
+    ensures { result.0 ≡ held_wide letters }
+{
+    width(letters.min(12), 90) + width(4, 90) + 20
+}
+
+/// The width of a machine by the names of machines, of which it has room for at least 9 letters.
+fn machines_wide(view: &View) -> Px
+    ensures { result.0 ≡ machines_wide view.now }
+{
     let mut most = Px(u64::from(LEAST_WIDE));
-    for machine in view.machines.as_slice().iter() {
-        most = most.max(width(machine.name.bytes().len(), 105) + 22);
+    for machine in view.machines.as_slice() {
+        most = most.max(machine_wide(machine.name.bytes().len()));
     }
-    for exp in view.experiments.as_slice().iter() {
-        let letters = exp.name.bytes().len().min(12);
-        most = most.max(width(letters, 90) + width(4, 90) + 20);
+    most
+}
+
+/// The width of a machine: of the names of machines, and of those of experiments.
+#[tactic(auto, unfolding(crate::specs::Heights::cell_width))]
+pub(crate) fn cell_width(view: &View) -> Px
+    ensures { result.0 ≡ cell_width view.now }
+{
+    let mut most = machines_wide(view);
+    for exp in view.experiments.as_slice() {
+        most = most.max(held_wide(exp.name.bytes().len()));
     }
     most
 }
 
 /// How many machines a row has where a switch has so many: the rows are equally long.
-fn columns_for(count: usize, most: usize) -> usize {
+#[tactic(auto, unfolding(crate::specs::Heights::columns_for))]
+fn columns_for(count: usize, most: usize) -> usize
+    ensures { result ≡ columns_for count most }
+{
     if count == 0 || most == 0 {
         return 0;
     }
-    let rows = count.div_ceil(most);
-    if rows == 0 { 0 } else { count.div_ceil(rows) }
+    count.div_ceil(count.div_ceil(most))
 }
 
-fn rows_high(count: usize, columns: usize) -> Px {
+#[tactic(auto, unfolding(crate::specs::Heights::rows_high, crate::specs::Measures::pixels))]
+fn rows_high(count: usize, columns: usize) -> Px
+    ensures { result.0 ≡ rows_high count columns }
+{
     if columns == 0 {
         return Px(0);
     }
@@ -109,8 +149,8 @@ fn rows_high(count: usize, columns: usize) -> Px {
 }
 
 /// Children in order, and the switch's own machines in their midst.
-fn slots_of(alloc: Global, plan: Plan<'_>, switch: usize) -> Result<Vec<Slot>, Memory> {
-    let mut slots = Vec::new(alloc);
+fn slots_of(alloc: Global, plan: Plan<'_>, switch: usize) -> Result<Items<Slot>, Memory> {
+    let mut slots = Items::new(alloc);
     let Some(branch) = plan.forest.branches.get(switch) else {
         return Ok(slots);
     };
@@ -123,6 +163,17 @@ fn slots_of(alloc: Global, plan: Plan<'_>, switch: usize) -> Result<Vec<Slot>, M
         slots.push(Slot::Child(*child))?;
     }
     Ok(slots)
+}
+
+/// How high what stands in a switch's own row is: its card, and its machines where no slots are.
+fn own_high(spot: &Spot) -> Px
+    ensures { result.0 ≡ own_high spot.now spot.now.slots }
+{
+    if spot.slots.is_empty() {
+        spot.band.high.max(BAND).max(spot.card.high)
+    } else {
+        spot.card.high
+    }
 }
 
 /// A switch's spot, whose heights alone are known.
@@ -159,16 +210,46 @@ fn spot_of(
     })
 }
 
+/// The number of the slot of a switch's own machines.
+fn own_slot(slots: &[Slot]) -> Option<usize>
+    ensures { result ≡ position is_own slots.now }
+{
+    slots.iter().position(|slot| is_own(*slot))
+}
+
+fn is_own(slot: Slot) -> bool
+    ensures { result ≡ is_own slot }
+{
+    match slot {
+        Slot::Child(_) => false,
+        Slot::Own => true,
+    }
+}
+
+/// Notes where the block of a slot begins.
+fn note_top(tops: &mut [Px], slot: Slot, top: Px)
+    ensures { tops.new ≡ with_top tops.old slot top.0 }
+{
+    match slot {
+        Slot::Child(child) => set_at(tops, child, top),
+        Slot::Own => {}
+    }
+}
+
 impl Layout {
     /// The card of a switch.
-    pub(crate) fn card(&self, switch: usize) -> Place {
+    pub(crate) fn card(&self, switch: usize) -> Place
+        ensures { result ≡ card_in (slice_get self.now.spots.items switch) }
+    {
         match self.spots.get(switch) {
             Some(spot) => spot.card,
             None => nowhere(),
         }
     }
 
-    fn block(&self, switch: usize) -> Px {
+    fn block(&self, switch: usize) -> Px
+        ensures { result.0 ≡ block_in (slice_get self.now.spots.items switch) }
+    {
         match self.spots.get(switch) {
             Some(spot) => spot.block,
             None => Px(0),
@@ -176,94 +257,157 @@ impl Layout {
     }
 
     /// How high a slot of a switch is.
-    fn slot_high(&self, spot: &Spot, slot: Slot) -> Px {
+    fn slot_high(&self, spot: &Spot, slot: Slot) -> Px
+        ensures { result.0 ≡ slot_high self.now.spots.items spot.now slot }
+    {
         match slot {
             Slot::Child(child) => self.block(child),
             Slot::Own => spot.band.high.max(BAND) + BETWEEN,
         }
     }
 
-    /// How high all slots of a switch are.
-    fn slots_high(&self, spot: &Spot) -> Px {
+    /// How high these slots of a switch are.
+    fn heights(&self, spot: &Spot, slots: &[Slot]) -> Px
+        ensures { result.0 ≡ heights self.now.spots.items spot.now slots.now }
+    {
         let mut sum = Px(0);
-        for slot in spot.slots.iter() {
+        for slot in slots {
             sum = sum + self.slot_high(spot, *slot);
         }
         sum
     }
 
     /// How high all that hangs on a switch is, once that is known of its children.
-    fn block_of(&self, switch: usize) -> Px {
+    fn block_of(&self, switch: usize) -> Px
+        ensures { result.0 ≡ block_of self.now.spots.items (slice_get self.now.spots.items switch) }
+    {
         let Some(spot) = self.spots.get(switch) else {
             return Px(0);
         };
-        let own = if spot.slots.is_empty() {
-            spot.band.high.max(BAND).max(spot.card.high)
-        } else {
-            spot.card.high
-        };
-        self.slots_high(spot).max(own + BETWEEN)
+        self.heights(spot, spot.slots.as_slice())
+            .max(own_high(spot) + BETWEEN)
+    }
+
+    /// Notes how high all that hangs on a switch is.
+    fn measure_one(&mut self, switch: usize)
+        ensures len { length self.new.spots.items ≡ length self.old.spots.items }
+        ensures spots { self.new.spots.items ≡ with_block self.old.spots.items switch (slice_get self.old.spots.items switch) }
+        ensures rest { self.new ≡ record self.old { spots = self.new.spots } }
+    {
+        let block = self.block_of(switch);
+        if switch < self.spots.len() {
+            self.spots[switch].block = block;
+        }
     }
 
     /// From the leaves up: how high each block is.
     fn measure(&mut self, order: &[usize])
-        ensures { length self.new.spots.items ≡ length self.old.spots.items }
+        ensures len { length self.new.spots.items ≡ length self.old.spots.items }
+        ensures spots { self.new.spots.items ≡ measured self.old.spots.items order.now }
+        ensures rest { self.new ≡ record self.old { spots = self.new.spots } }
     {
-        for switch in order.iter().rev() {
-            let block = self.block_of(*switch);
-            if let Some(spot) = self.spots.get_mut(*switch) {
-                spot.block = block;
-            }
+        for at in (0..order.len()).rev() {
+            self.measure_one(order[at]);
         }
+    }
+
+    /// Where the first slot of a switch begins.
+    fn first_top(&self, spot: &Spot, top: Px) -> Px
+        ensures { result.0 ≡ first_top self.now.spots.items spot.now top.0 }
+    {
+        top + (spot.block - self.heights(spot, spot.slots.as_slice())) / 2
+    }
+
+    /// Where a switch's machines stand: in the midst of their slot, or of its block.
+    #[tactic(auto, using(crate::proofs::Sums::pixels_more))]
+    fn own_top(&self, spot: &Spot, top: Px) -> Px
+        ensures { result.0 ≡ own_top self.now.spots.items spot.now top.0 }
+    {
+        match own_slot(spot.slots.as_slice()) {
+            Some(number) => {
+                let before = self.heights(spot, &spot.slots.as_slice()[..number]);
+                let inside = (spot.band.high.max(BAND) - spot.band.high) / 2;
+                self.first_top(spot, top) + before + inside
+            }
+            None => top + (spot.block - BETWEEN - spot.band.high) / 2,
+        }
+    }
+
+    /// Notes the tops of a switch's slots below one another.
+    fn hang(&self, spot: &Spot, top: Px, tops: &mut [Px])
+        ensures { tops.new ≡ hung self.now.spots.items (Some spot.now) top.0 tops.old }
+    {
+        let mut y = self.first_top(spot, top);
+        for slot in spot.slots.as_slice() {
+            note_top(tops, *slot, y);
+            y = y + self.slot_high(spot, *slot);
+        }
+    }
+
+    /// Puts a switch's card and its machines there.
+    fn put_spot(&mut self, switch: usize, card: Px, own: Px)
+        requires { switch < length self.old.spots.items }
+        ensures len { length self.new.spots.items ≡ length self.old.spots.items }
+        ensures spots { (p : AnySpot) → slice_get self.old.spots.items switch ≡ Some p
+            → self.new.spots.items ≡ slice_set self.old.spots.items switch (put_spot p card.0 own.0) }
+        ensures rest { self.new ≡ record self.old { spots = self.new.spots } }
+    {
+        let spot = &mut self.spots[switch];
+        spot.card.y = card;
+        spot.band.y = own;
     }
 
     /// Puts a block there: its card in its midst, and below another the blocks of its slots, whose tops are noted.
     fn put(&mut self, switch: usize, top: Px, tops: &mut [Px])
-        ensures { length self.new.spots.items ≡ length self.old.spots.items }
+        ensures len { length self.new.spots.items ≡ length self.old.spots.items }
+        ensures spots { self.new.spots.items ≡ with_put self.old.spots.items switch top.0 (slice_get self.old.spots.items switch) }
+        ensures tops { tops.new ≡ hung self.old.spots.items (slice_get self.old.spots.items switch) top.0 tops.old }
+        ensures rest { self.new ≡ record self.old { spots = self.new.spots } }
     {
         let Some(spot) = self.spots.get(switch) else {
             return;
         };
-        let mut y = top + (spot.block - self.slots_high(spot)) / 2;
-        let mut own = top + (spot.block - BETWEEN - spot.band.high) / 2;
-        for slot in spot.slots.iter() {
-            match *slot {
-                Slot::Child(child) => {
-                    if let Some(below) = tops.get_mut(child) {
-                        *below = y;
-                    }
-                }
-                Slot::Own => own = y + (spot.band.high.max(BAND) - spot.band.high) / 2,
-            }
-            y = y + self.slot_high(spot, *slot);
-        }
+        self.hang(spot, top, tops);
         let card = top + (spot.block - BETWEEN - spot.card.high) / 2;
-        if let Some(spot) = self.spots.get_mut(switch) {
-            spot.card.y = card;
-            spot.band.y = own;
+        let own = self.own_top(spot, top);
+        self.put_spot(switch, card, own);
+    }
+
+    /// Notes the tops of the roots' blocks below one another. The answer is where the last one ends.
+    fn put_roots(&self, roots: &[usize], top: Px, tops: &mut [Px]) -> Px
+        ensures end { result.0 ≡ (rooted self.now.spots.items top.0 tops.old roots.now).end }
+        ensures tops { tops.new ≡ (rooted self.now.spots.items top.0 tops.old roots.now).tops }
+    {
+        let mut y = top;
+        for root in roots {
+            set_at(tops, *root, y);
+            y = y + self.block(*root);
+        }
+        y
+    }
+
+    /// Puts the switches in that order, where their parents have noted.
+    fn put_each(&mut self, order: &[usize], tops: &mut [Px])
+        ensures len { length self.new.spots.items ≡ length self.old.spots.items }
+        ensures spots { self.new.spots.items ≡ (all_put (record { spots = self.old.spots.items; tops = tops.old }) order.now).spots }
+        ensures rest { self.new ≡ record self.old { spots = self.new.spots } }
+    {
+        for switch in order {
+            let top = at(tops, *switch);
+            self.put(*switch, top, tops);
         }
     }
 
     /// From the roots down: where each block stands. The answer is where the last one ends.
     fn put_all(&mut self, alloc: Global, forest: &Forest, top: Px) -> Result<Px, Memory>
-        ensures { OnOk result (length self.new.spots.items ≡ length self.old.spots.items) }
+        ensures len { OnOk result (length self.new.spots.items ≡ length self.old.spots.items) }
+        ensures put { IfOk result (λ end. IsAllPut self.old.spots.items self.new.spots.items forest.now top.0 end.0) }
+        ensures rest { OnOk result (self.new ≡ record self.old { spots = self.new.spots }) }
     {
-        let mut tops = Vec::new(alloc);
-        for _ in self.spots.iter() {
-            tops.push(Px(0))?;
-        }
-        let mut y = top;
-        for root in forest.roots.iter() {
-            if let Some(below) = tops.get_mut(*root) {
-                *below = y;
-            }
-            y = y + self.block(*root);
-        }
-        for switch in forest.order.iter() {
-            let top = at(&tops, *switch);
-            self.put(*switch, top, &mut tops);
-        }
-        Ok(y)
+        let mut tops = bare(alloc, self.spots.len())?;
+        let end = self.put_roots(&forest.roots, top, &mut tops);
+        self.put_each(&forest.order, &mut tops);
+        Ok(end)
     }
 }
 
@@ -274,7 +418,9 @@ pub(crate) fn layout_of(
     cell: Px,
     most: usize,
 ) -> Result<Layout, Memory>
-    ensures { IfOk result (λ layout. length layout.spots.items ≡ length plan.entry.view.now.switches) }
+    ensures spots { IfOk result (λ layout. length layout.spots.items ≡ length plan.entry.view.now.switches) }
+    ensures cell { IfOk result (λ layout. layout.cell ≡ cell) }
+    ensures lone { IfOk result (λ layout. layout.lone_columns ≡ columns_for (length plan.entry.rows.now.lone.items) most) }
 {
     let columns = columns_of_lab(alloc, plan)?;
     let lone = plan.rows.lone.len();

@@ -1,4 +1,7 @@
 // The lines of trunks, and those to a switch's own machines.
+ghost use Rattle.std.specs.Prelude.{◌≡◌};
+ghost use Rattle.lab_layout.specs.Cells.{small_box};
+
 use crate::columns::{PORT, TURN, lane_of};
 use crate::layout::{Layout, Slot, Spot};
 use crate::px::{Place, Px};
@@ -98,7 +101,9 @@ pub(crate) fn line_of(trunk: &Trunk, way: Way) -> Line {
 }
 
 /// A box as the picture has it.
-pub(crate) fn small(place: Place) -> lab_picture::Place {
+pub(crate) fn small(place: Place) -> lab_picture::Place
+    ensures { result ≡ small_box place }
+{
     lab_picture::Place {
         x: place.x.small(),
         y: place.y.small(),

@@ -1,6 +1,8 @@
 // How far a picture reaches.
-ghost use Rattle.std.specs.Prelude.{◌≤◌, ◌+◌, All};
+ghost use Rattle.std.specs.Prelude.{◌≡◌, ◌≤◌, ◌+◌, max, All};
+ghost use Rattle.std.specs.List.{fold};
 ghost use Rattle.lab_layout.specs.Laid.{IsIn, IsPointIn, IsCardIn, IsEchoIn};
+ghost use Rattle.lab_layout.specs.Reaches.{over, over_point, over_card, over_echo};
 
 use lab_picture::{Card, Echo, Place, Point};
 
@@ -13,8 +15,7 @@ pub(crate) struct Reach {
 
 /// The end of an edge, or what was reached where that is farther.
 fn farther(reached: u64, start: u32, size: u32) -> u64
-    ensures more { reached ≤ result }
-    ensures end { start + size ≤ result }
+    ensures { result ≡ max reached (start + size) }
 {
     let end = u64::from(start) + u64::from(size);
     if end > reached { end } else { reached }
@@ -23,6 +24,7 @@ fn farther(reached: u64, start: u32, size: u32) -> u64
 impl Reach {
     /// As far as a box too.
     pub(crate) fn over(self, place: Place) -> Reach
+        ensures reach { result ≡ over self place }
         ensures wide { self.wide ≤ result.wide }
         ensures high { self.high ≤ result.high }
         ensures inside { IsIn result.wide result.high place }
@@ -34,6 +36,7 @@ impl Reach {
     }
 
     fn over_point(self, point: Point) -> Reach
+        ensures reach { result ≡ over_point self point }
         ensures wide { self.wide ≤ result.wide }
         ensures high { self.high ≤ result.high }
         ensures inside { IsPointIn result.wide result.high point }
@@ -45,6 +48,7 @@ impl Reach {
     }
 
     fn over_echo(self, echo: &Option<Echo>) -> Reach
+        ensures reach { result ≡ over_echo self echo.now }
         ensures wide { self.wide ≤ result.wide }
         ensures high { self.high ≤ result.high }
         ensures inside { IsEchoIn result.wide result.high echo.now }
@@ -57,6 +61,7 @@ impl Reach {
 
     /// As far as all boxes too.
     pub(crate) fn over_all(self, places: &[Place]) -> Reach
+        ensures reach { result ≡ fold over self places.now }
         ensures wide { self.wide ≤ result.wide }
         ensures high { self.high ≤ result.high }
         ensures inside { All (IsIn result.wide result.high) places.now }
@@ -70,6 +75,7 @@ impl Reach {
 
     /// As far as all points too.
     pub(crate) fn over_points(self, points: &[Point]) -> Reach
+        ensures reach { result ≡ fold over_point self points.now }
         ensures wide { self.wide ≤ result.wide }
         ensures high { self.high ≤ result.high }
         ensures inside { All (IsPointIn result.wide result.high) points.now }
@@ -83,6 +89,7 @@ impl Reach {
 
     /// As far as all cards too.
     pub(crate) fn over_cards(self, cards: &[Card]) -> Reach
+        ensures reach { result ≡ fold over_card self cards.now }
         ensures wide { self.wide ≤ result.wide }
         ensures high { self.high ≤ result.high }
         ensures inside { All (IsCardIn result.wide result.high) cards.now }
@@ -96,6 +103,7 @@ impl Reach {
 
     /// As far as all second cards too.
     pub(crate) fn over_echoes(self, echoes: &[Option<Echo>]) -> Reach
+        ensures reach { result ≡ fold over_echo self echoes.now }
         ensures wide { self.wide ≤ result.wide }
         ensures high { self.high ≤ result.high }
         ensures inside { All (IsEchoIn result.wide result.high) echoes.now }
@@ -105,5 +113,27 @@ impl Reach {
             reach = reach.over_echo(echo);
         }
         reach
+    }
+
+    /// As far as everything in a picture too: its strip, its machines, its cards, and where experiments are listed.
+    pub(crate) fn over_picture(
+        self,
+        strip: Place,
+        cells: &[Place],
+        cards: &[Card],
+        echoes: &[Option<Echo>],
+        entries: &[Point],
+    ) -> Reach
+        ensures strip { IsIn result.wide result.high strip }
+        ensures cells { All (IsIn result.wide result.high) cells.now }
+        ensures cards { All (IsCardIn result.wide result.high) cards.now }
+        ensures echoes { All (IsEchoIn result.wide result.high) echoes.now }
+        ensures entries { All (IsPointIn result.wide result.high) entries.now }
+    {
+        self.over(strip)
+            .over_all(cells)
+            .over_cards(cards)
+            .over_echoes(echoes)
+            .over_points(entries)
     }
 }

@@ -1,5 +1,0 @@
-use Rattle.std.proofs.Common.{◌≡◌, length}
-use Rattle.lab_layout.proofs.layout.Layout.put_all.Given as goal
-
-abbrev pub invariant-loop-switch : goal.invariant-loop-switch
-invariant-loop-switch l = length l.self.spots.items ≡ length l.initial.self.spots.items
