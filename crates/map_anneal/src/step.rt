@@ -1,6 +1,5 @@
 // Nodes and classes that a step from one map to another touches.
 ghost use Rattle.std.specs.Prelude.{◌≡◌, ◌≢◌, ◌<◌, ◌≤◌, ◌⊎◌, ℕ, true, false, length, slice_index_or, slice_set, All, IfOk, IsTrue};
-
 ghost use Rattle.virt_topo.specs.Wirings.{virt_at};
 ghost use Rattle.lab_model.specs.Rules.{is_member, place_at};
 ghost use Rattle.lab_model.specs.Uses.{switch_of};

@@ -81,7 +81,7 @@ loop-virt-preserved g c =
       count = forgot.one_each;
       known = λ k lt yes. forgot.known k lt yes;
       taken = λ k lt yes. subst (λ (l : List (List Place)). get_or (marks_of c.args.touched.now.nodes.items (get_or l v [])) k true ≡ false) c.requires.moves.listed
-        (subst (λ (l : List Bool). get_or l k true ≡ false) marks (forgot.unmarked k lt yes));
+          (subst (λ (l : List Bool). get_or l k true ≡ false) marks (forgot.unmarked k lt yes));
       here = λ k lt yes. (touched.virts v (sym c.has-all.ensures ∙ forgot.some k lt yes)).here;
       class = λ k lt yes. (touched.virts v (sym c.has-all.ensures ∙ forgot.some k lt yes)).class;
     }) in
