@@ -2,11 +2,11 @@
 use Rattle.std.specs.Prelude.{◌≡◌, ℕ, List, map, slice_get, Some}
 use Rattle.plant.specs.declared.step.Side.{Side}
 use Rattle.journal_rec.specs.declared.record.Record.{Record}
-use Rattle.journal_model.specs.Journals.{head, live, New, Bad}
+use Rattle.journal_model.specs.Journals.{head, live, New}
 use Rattle.records_model.specs.Labs.{LabState, at_first, LabOf, StopsAt}
 use Rattle.lab_state.specs.Texts.{the_texts}
 use Rattle.lab_sides.specs.declared.walking.Walked.{Walked}
-use Rattle.lab_sides.specs.Reads.{Stands}
+use Rattle.lab_sides.specs.Reads.{Stands, HasFault}
 use Rattle.lab_look.specs.declared.looked.Looked.{Looked}
 use Rattle.lab_look.specs.declared.looked.Looked.TheVariants as looks
 
@@ -24,9 +24,9 @@ pub record HasWrong (a b : List ℕ) (side : Side) (at : ℕ) (w : Walked) : Typ
   pub stops : StopsAt the_texts at_first rs index
   pub place : slice_get (map (λ f. f.at) w.found) index ≡ Some at
 
--- WHAT A LOOK AT TWO SIDES FINDS: nothing yet; a journal with its lab; or none: a bad side, or a record that can't follow
+-- WHAT A LOOK AT TWO SIDES FINDS: nothing yet; a journal with its lab; or none: a fault with the records before it, or a record that can't follow
 abbrev pub IsLook : List ℕ → List ℕ → Looked → Type 0
 IsLook a b looks.New = live (head a) (head b) ≡ New
 IsLook a b (looks.Found side w s) = HasLab a b side w s.state
-IsLook a b (looks.Bad side at before) = Bad a b side at
+IsLook a b (looks.Bad side at before) = HasFault a b side at before
 IsLook a b (looks.Wrong side at w) = HasWrong a b side at w

@@ -2,13 +2,14 @@
 use Rattle.std.specs.Prelude.{◌≡◌, ℕ, Bool, true, false, ◌&&◌, ◌||◌, not, nat_lt, List, length, Option, Some, None}
 use Rattle.plant.specs.Sides.{of_side}
 use Rattle.journal_rec.specs.declared.record.Found.{Found}
-use Rattle.journal_model.specs.Journals.{head, live, New, Bad}
+use Rattle.journal_model.specs.Journals.{head, live, New}
 use Rattle.records_model.specs.Labs.{LabState}
 use Rattle.journal_disk.specs.declared.heads.Head.{Head}
 use Rattle.journal_disk.specs.declared.heads.Head.TheVariants.{Blank, Headed}
 use Rattle.journal_disk.specs.Heads.{seen}
 use Rattle.lab_sides.specs.Heads.{shut_head, is_cut}
 use Rattle.lab_sides.specs.Walks.{AreThere}
+use Rattle.lab_sides.specs.Reads.{HasFault}
 use Rattle.lab_look.specs.declared.report.SideReport.{SideReport}
 use Rattle.lab_look.specs.declared.report.Standing.{Standing}
 use Rattle.lab_look.specs.declared.report.Standing.TheVariants as standings
@@ -43,7 +44,7 @@ pub record IsSideReport (bytes : List ℕ) (r : SideReport) : Type 0 where
 abbrev pub IsStanding : List ℕ → List ℕ → Standing → Type 0
 IsStanding a b standings.New = live (head a) (head b) ≡ New
 IsStanding a b (standings.On side w found) = (s : LabState) × HasLab a b side w s × AreThere (of_side side a b) w.gate found
-IsStanding a b (standings.Bad side at before) = Bad a b side at
+IsStanding a b (standings.Bad side at before) = HasFault a b side at before
 IsStanding a b (standings.Wrong side at w) = HasWrong a b side at w
 
 -- WHAT BOTH SIDES HOLD

@@ -1,8 +1,9 @@
 -- Both sides, by a walk over the live one.
-use Rattle.std.proofs.Common.{◌≡◌, ℕ, List, refl, sym, subst}
+use Rattle.std.proofs.Common.{◌≡◌, inl, inr, ℕ, List, [], refl, sym, subst}
 use Rattle.plant.specs.declared.step.Side.{Side}
 use Rattle.plant.specs.Sides.{of_side}
-use Rattle.journal_model.specs.Journals.{head, Live, On, Wrong, live, RecordsOf, BadOf, Bad}
+use Rattle.journal_rec.specs.declared.record.Found.{Found}
+use Rattle.journal_model.specs.Journals.{head, Live, On, Wrong, live, RecordsOf, BadOf}
 use Rattle.journal_disk.proofs.Placing.{has_header, on_live, new_live, wrong_live}
 use Rattle.lab_sides.specs.declared.walking.Ended.TheVariants.{Whole, Torn}
 use Rattle.lab_sides.specs.declared.walking.Walked.{Walked}
@@ -22,10 +23,16 @@ whole_read a b side w e walk = (
   },
 )
 
-pub torn_read : (a b : List ℕ) (side : Side) (w : Walked) → live (head a) (head b) ≡ On side → IsWalk (of_side side a b) (Torn w) → Bad a b side w.gate
-torn_read a b side w e walk = subst (λ (l : Live). BadOf l a b side w.gate) (sym e) (refl, (walk.0, walk.1, walk.3))
+pub torn_read : (a b : List ℕ) (side : Side) (w : Walked) → live (head a) (head b) ≡ On side → IsWalk (of_side side a b) (Torn w) → IsRead a b (reads.Bad side w.gate w.found)
+torn_read a b side w e walk = record {
+  bad = subst (λ (l : Live). BadOf l a b side w.gate) (sym e) (refl, (walk.0, walk.1, walk.3));
+  before_are = inr (walk.0, walk.1, walk.2, walk.3);
+}
 
-pub wrong_read : (a b : List ℕ) (side : Side) → live (head a) (head b) ≡ Wrong side → Bad a b side 0
-wrong_read a b side e = subst (λ (l : Live). BadOf l a b side 0) (sym e) (refl, refl)
+pub wrong_read : (a b : List ℕ) (side : Side) (before : List Found) → live (head a) (head b) ≡ Wrong side → before ≡ [] → IsRead a b (reads.Bad side 0 before)
+wrong_read a b side before e none = record {
+  bad = subst (λ (l : Live). BadOf l a b side 0) (sym e) (refl, refl);
+  before_are = inl (refl, none);
+}
 
 pub ruleset live_sides = (has_header, whole_read, torn_read, wrong_read, on_live, new_live, wrong_live)

@@ -8,4 +8,5 @@ pub read_side-requires : goal.read_side-requires
 read_side-requires c = on_live (live (head c.args.a.now) (head c.args.b.now)) c.in-On.side (sym c.in-On.ensures)
 
 pub returns-in-Wrong : goal.returns-in-Wrong
-returns-in-Wrong c = wrong_read c.args.a.now c.args.b.now c.in-Wrong.side (wrong_live (live (head c.args.a.now) (head c.args.b.now)) c.in-Wrong.side (sym c.in-Wrong.ensures))
+returns-in-Wrong c =
+    wrong_read c.args.a.now c.args.b.now c.in-Wrong.side c.new.result (wrong_live (live (head c.args.a.now) (head c.args.b.now)) c.in-Wrong.side (sym c.in-Wrong.ensures)) c.new.ensures
