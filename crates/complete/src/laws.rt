@@ -1,5 +1,5 @@
 //! Laws of a run: completeness, and the course of each open swap.
-ghost use Rattle.std.specs.Prelude.{◌≡◌, ◌⊎◌, Bool, true, false, List, ◌++◌, Option, Some};
+ghost use Rattle.std.specs.Prelude.{◌≡◌, ◌⊎◌, true, false, List, ◌++◌, Option, Some};
 ghost use Rattle.lab_base.specs.Lists.{Has};
 ghost use Rattle.plant.specs.Events.{Event};
 ghost use Rattle.plant.specs.Told.{Told};

@@ -1,5 +1,5 @@
 // The rule on plugs.
-ghost use Rattle.std.specs.Prelude.{◌≡◌, IfSome, ◌<◌, ◌≤◌, ◌&&◌, ◌==◌, length, take, zip, slice_index_or, IfOk};
+ghost use Rattle.std.specs.Prelude.{◌≡◌, IfSome, ◌<◌, ◌&&◌, ◌==◌, length, take, zip, slice_index_or, IfOk};
 ghost use Rattle.virt_topo.specs.Soundness.{IsSound};
 ghost use Rattle.lab_model.specs.Shapes.{IsShaped};
 ghost use Rattle.lab_model.specs.Rules.{keeps_f5, loads_on, may_bear, may_join, place_at, plug_at};

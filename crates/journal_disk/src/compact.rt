@@ -1,5 +1,5 @@
-ghost use Rattle.std.specs.Prelude.{◌≡◌, ◌↔◌, ◌≤◌, ◌<◌, ◌+◌, ◌-◌, ◌^◌, ◌++◌, ◌∷◌, [], ℕ};
-ghost use Rattle.std.specs.Prelude.{Bool, List, true, length, Option, Result, IfSome, IsErrOf, IsTrue, OnOk, OnErr};
+ghost use Rattle.std.specs.Prelude.{◌≡◌, ◌↔◌, ◌≤◌, ◌<◌, ◌+◌, ◌-◌, ◌^◌, ◌∷◌, [], ℕ};
+ghost use Rattle.std.specs.Prelude.{Bool, List, length, Option, Result, IfSome, IsErrOf, IsTrue, OnOk, OnErr};
 ghost use Rattle.lab_base.specs.Counts.{Rose};
 ghost use Rattle.plant.specs.DiskCalls.{DiskCause};
 ghost use Rattle.plant.specs.Events.{Event, Wrote, Synced};

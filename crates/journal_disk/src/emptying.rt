@@ -1,5 +1,5 @@
 // Emptying a side: its header gate is closed, and the side is cut behind it.
-ghost use Rattle.std.specs.Prelude.{◌≡◌, ◌↔◌, ◌≤◌, ◌++◌, ◌∷◌, [], Bool, List, ℕ, true, false, length, Option, IfOk, IfSome, OnOk, IsErrOf, IsTrue};
+ghost use Rattle.std.specs.Prelude.{◌≡◌, ◌↔◌, ◌≤◌, ◌∷◌, [], Bool, List, ℕ, true, false, length, Option, IfOk, IfSome, OnOk, IsErrOf, IsTrue};
 ghost use Rattle.plant.specs.DiskCalls.{missed, DiskCause};
 ghost use Rattle.plant.specs.Disks.{disk};
 ghost use Rattle.plant.specs.Events.{Cut, Synced};

@@ -21,14 +21,14 @@ pub struct Journal {
 }
 
 impl Journal {
-    ghost use Rattle.std.specs.Prelude.{◌≡◌, ◌↔◌, ◌<◌, ◌≤◌, ◌+◌, ◌++◌, [], ◌∷◌, ℕ, List, length, Option, Some, Err, IfSome, IsErrOf, OnOk, OnErr, IsTrue};
+    ghost use Rattle.std.specs.Prelude.{◌≡◌, ◌↔◌, ◌<◌, ◌≤◌, ◌+◌, ◌++◌, [], ◌∷◌, ℕ, List, length, Err, IfSome, IsErrOf, OnOk, OnErr, IsTrue};
     ghost use Rattle.lab_base.specs.Counts.{Rose};
     ghost use Rattle.plant.specs.DiskCalls.{DiskCause};
     ghost use Rattle.plant.specs.Events.{Event};
     ghost use Rattle.plant.specs.Told.{with_steps};
     ghost use Rattle.journal_rec.specs.Payloads.{IsBody};
     ghost use Rattle.journal_rec.specs.declared.record.Record.{Record};
-    ghost use Rattle.journal_disk.specs.Standing.{side_of, gate_of, length_of, limit_of, IsAt, Appends, Adds, Moments};
+    ghost use Rattle.journal_disk.specs.Standing.{side_of, length_of, limit_of, IsAt, Appends, Adds, Moments};
     ghost use Rattle.journal_disk.specs.Epochs.{epoch_of, HasEpoch};
 
     /// The side to which records are appended.

@@ -2,7 +2,7 @@
 #![tactic(auto)]
 
 ghost use Rattle.std.specs.Prelude.{◌≡◌, ◌⊎◌, ◌++◌, ◌∷◌, [], ℕ, List};
-ghost use Rattle.plant.specs.Events.{Event, Synced, Missed, Wrote};
+ghost use Rattle.plant.specs.Events.{Event, Synced};
 ghost use Rattle.plant.specs.Disks.{ArePossible, disk};
 ghost use Rattle.plant.specs.declared.step.Side.{Side};
 ghost use Rattle.journal_rec.specs.declared.record.Record.{Record};

@@ -7,7 +7,7 @@ ghost use Rattle.lab_base.specs.declared.ids.NodeId.{NodeId};
 ghost use Rattle.phys_lab.specs.Labs.{Lab};
 ghost use Rattle.lab_ahead.specs.declared.fitting.Need.{Need};
 ghost use Rattle.lab_ahead.specs.Givings.{Fits, IsShort, IsYes, Shows, need_at};
-ghost use Rattle.lab_ahead.specs.Trails.{Reached, given_of, step_at};
+ghost use Rattle.lab_ahead.specs.Trails.{Reached, given_of};
 
 use crate::giving::Giving;
 use crate::read::MAX_PROMISES;

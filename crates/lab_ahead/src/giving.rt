@@ -1,8 +1,8 @@
 // Nodes given to needs, and exchanged between them.
-ghost use Rattle.std.specs.Prelude.{◌≡◌, ◌<◌, ◌≤◌, ◌+◌, ◌^◌, ◌==◌, ℕ, length, map, replicate, IfOk, OnOk, MatchOption, Some, None, true, All, if◌then◌else◌};
+ghost use Rattle.std.specs.Prelude.{◌≡◌, ◌<◌, ◌≤◌, ◌+◌, ◌==◌, ℕ, length, map, replicate, IfOk, OnOk, MatchOption, Some, None, true, All, if◌then◌else◌};
 ghost use Rattle.std.specs.List.{list_any};
 ghost use Rattle.lab_base.specs.Names.{same_name};
-ghost use Rattle.lab_ahead.specs.Givings.{has_type, need_at};
+ghost use Rattle.lab_ahead.specs.Givings.{has_type};
 ghost use Rattle.lab_ahead.specs.Trails.{AreMet, Extends, IsClosedAt, IsFree, IsPath, IsSearched, IsTaken, IsTrail, IsStuck, IsWanting, IsWhole, KeepsNodes, held, owner_at, owners_in, serves, step_at, table_in, table_of};
 
 use crate::fitting::Need;

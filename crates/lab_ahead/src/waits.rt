@@ -1,5 +1,5 @@
 // The first moment of a span at which needs don't fit.
-ghost use Rattle.std.specs.Prelude.{◌≡◌, ◌<◌, ◌≤◌, ◌+◌, ◌^◌, ◌↔◌, ℕ, List, None, length, map, All, IfOk, IfSome, if◌then◌else◌};
+ghost use Rattle.std.specs.Prelude.{◌≡◌, ◌<◌, ◌≤◌, ◌+◌, ◌^◌, ◌↔◌, List, None, length, map, All, IfOk, IfSome, if◌then◌else◌};
 ghost use Rattle.lab_base.specs.Lists.{AllDiffer};
 ghost use Rattle.phys_lab.specs.Labs.{Lab as AnyLab};
 ghost use Rattle.phys_lab.specs.Keys.{has_name};

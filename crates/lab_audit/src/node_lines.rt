@@ -1,5 +1,5 @@
 // Nodes of a lab that differ.
-ghost use Rattle.std.specs.Prelude.{◌≡◌, ◌⊎◌, ◌↔◌, ◌<◌, ◌++◌, [], ◌∷◌, ℕ, Bool, List, is_some, true, length, Some, IfOk, OnOk, IfSome};
+ghost use Rattle.std.specs.Prelude.{◌≡◌, ◌↔◌, ◌<◌, ◌++◌, [], ◌∷◌, ℕ, Bool, List, is_some, true, length, Some, IfOk, OnOk, IfSome};
 ghost use Rattle.lab_base.specs.Lists.{Has};
 ghost use Rattle.virt_topo.specs.declared.mapping.Mapped.{Mapped as AnyMapped};
 ghost use Rattle.plant.specs.Worlds.{world_of, wiped};

@@ -1,7 +1,5 @@
 // Whether a node is as it is wanted.
 ghost use Rattle.std.specs.Prelude.{◌≡◌, ◌↔◌, is_some, true, IfOk, IfSome};
-ghost use Rattle.std.specs.Str.{bytes_eq};
-ghost use Rattle.lab_base.specs.declared.boot.Boot.{Boot as AnyBoot};
 ghost use Rattle.plant.specs.Worlds.{world_of};
 ghost use Rattle.plant_tables.specs.Readings.{pipe_of};
 ghost use Rattle.lab_model.specs.Cabled.{SameNode};

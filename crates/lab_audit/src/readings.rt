@@ -1,4 +1,4 @@
-ghost use Rattle.std.specs.Prelude.{◌≡◌, ◌↔◌, ℕ, map, IfOk, OnOk, IfSome};
+ghost use Rattle.std.specs.Prelude.{◌↔◌, ℕ, map, IfOk, OnOk, IfSome};
 ghost use Rattle.lab_base.specs.Lists.{Has};
 ghost use Rattle.plant.specs.Worlds.{world_of};
 ghost use Rattle.plant_tables.specs.Readings.{IsEntry, entry_of, TellsRow, TellsNode, TellsPipe, RowsFit, PipesFit};

@@ -8,7 +8,7 @@ ghost use Rattle.virt_topo.specs.declared.experiment.Experiment.{Experiment as A
 ghost use Rattle.plant.specs.Worlds.{World};
 ghost use Rattle.plant_tables.specs.Readings.{IsEntry, entry_of};
 ghost use Rattle.lab_audit.specs.Diff.{AreLinesOf};
-ghost use Rattle.lab_audit.specs.Lines.{AreAllWanted, is_found, is_wanted_at, lacking_line, strange_line, unordered};
+ghost use Rattle.lab_audit.specs.Lines.{AreAllWanted, is_found, is_wanted_at, lacking_line, strange_line};
 
 use crate::Line;
 use crate::lines::in_order;

@@ -1,6 +1,5 @@
 // All rows that experiments want.
 ghost use Rattle.std.specs.Prelude.{◌≡◌, ◌++◌, map, OnOk, Some, IfSome, true};
-ghost use Rattle.phys_lab.specs.Labs.{Lab as AnyLab};
 ghost use Rattle.virt_topo.specs.declared.mapping.Mapped.{Mapped as AnyMapped};
 ghost use Rattle.lab_model.specs.Claims.{Which, claimed};
 ghost use Rattle.lab_model.specs.Holding.{Suits};

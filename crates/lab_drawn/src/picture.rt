@@ -1,5 +1,5 @@
 // The picture of the lab of records.
-ghost use Rattle.std.specs.Prelude.{◌≡◌, IfOk};
+ghost use Rattle.std.specs.Prelude.{IfOk};
 ghost use Rattle.lab_drawn.specs.Drawings.{IsPicture, IsPictureOf};
 
 use lab_base::{Memory, Text};

@@ -1,7 +1,7 @@
 // The script of a seed.
 ghost use Rattle.std.specs.Prelude.{◌≡◌, ◌+◌, ◌*◌, ◌-◌, ◌%◌, ◌<◌, ◌≤◌, ◌++◌, List, length, IfOk, OnOk};
 ghost use Rattle.std.specs.List.{flat_map};
-ghost use Rattle.lab_gen.specs.Script.{drawn_lines, experiment_lines, generated, generator_behind, interface_lines, lab_lines, numbers, swapout_lines, text_of, top_lines};
+ghost use Rattle.lab_gen.specs.Script.{drawn_lines, experiment_lines, generated, interface_lines, lab_lines, numbers, swapout_lines, text_of, top_lines};
 ghost use Rattle.rand_pcg.specs.Pcg.{pcg32};
 ghost use Rattle.script_text.specs.Commands.{AtEnd, IsScript};
 ghost use Rattle.script_text.specs.declared.command.Command.{Command};

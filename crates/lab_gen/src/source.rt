@@ -23,10 +23,7 @@ impl TextSource {
 }
 
 impl Source for TextSource {
-    ghost use Rattle.std.specs.Prelude.{◌≡◌, ◌<◌, length, take, Some, IfOk, OnErr, Ok};
-    ghost use Rattle.std.specs.Io.{ReadsAtMost};
-    ghost use Rattle.std.specs.Io.KnownBytes.{prepend_known, IsAtEnd};
-    ghost use Rattle.lab_io.specs.Causes.{HasCause};
+    ghost use Rattle.std.specs.Prelude.{◌≡◌, ◌<◌, length, Some, Ok};
     ghost use Rattle.lab_gen.specs.Sources.{left_of};
 
     ghost left = { λ s. Some (left_of s) };

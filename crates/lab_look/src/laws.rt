@@ -3,9 +3,9 @@ ghost use Rattle.std.specs.Prelude.{◌≡◌, ◌↔◌, ℕ, List, IsTrue, Som
 ghost use Rattle.lab_base.specs.Lists.{Has};
 ghost use Rattle.phys_lab.specs.Labs.{Lab as AnyLab};
 ghost use Rattle.virt_topo.specs.declared.experiment.Experiment.{Experiment as AnyExperiment};
-ghost use Rattle.lab_model.specs.Claims.{Claims as AnyClaims, claims_it};
+ghost use Rattle.lab_model.specs.Claims.{Claims as AnyClaims};
 ghost use Rattle.records_model.specs.Labs.{LabState as AnyState, Sane};
-ghost use Rattle.lab_look.specs.Seats.{holder, seat_of};
+ghost use Rattle.lab_look.specs.Seats.{seat_of};
 ghost use Rattle.lab_view.specs.Views.{is_seat_of};
 
 /// The seat of a machine is of an experiment exactly where that experiment claims it.

@@ -1,6 +1,6 @@
 // Who holds a machine, and whose a VLAN id is.
 ghost use Rattle.std.specs.Prelude.{◌≡◌, ◌≤◌, ◌^◌, length, ◌<◌, IfOk, slice_get};
-ghost use Rattle.lab_look.specs.Seats.{holder, owner, seat_by, seat_at, seat_of};
+ghost use Rattle.lab_look.specs.Seats.{holder, owner, seat_by, seat_of};
 
 use claims::MAX_EXPERIMENTS;
 use lab_base::Memory;

@@ -1,11 +1,9 @@
 //! The definitions of the model, the laws about them, and the small calls that answer them by number and by name.
 #![tactic(auto)]
 
-ghost use Rattle.std.specs.Prelude.{◌≡◌, ◌≢◌, ◌↔◌, ◌⊎◌, ◌++◌, ◌∷◌, [], ◌<◌, ℕ, List, length, take, Bool, true, false, Option, Some, None, Result, All};
+ghost use Rattle.std.specs.Prelude.{◌≡◌, ◌≢◌, ◌↔◌, ◌++◌, ◌∷◌, [], ◌<◌, ℕ, List, length, take, Bool, true, Option, Some, None, Result, All};
 ghost use Rattle.lab_base.specs.Lists.{Has, AllDiffer};
-ghost use Rattle.phys_lab.specs.Sides.{joined, AreJoined};
 ghost use Rattle.phys_lab.specs.Labs.{Lab};
-ghost use Rattle.phys_lab.specs.declared.parts.Trunk.{Trunk};
 ghost use Rattle.phys_lab.specs.declared.free.Free.{Free};
 ghost use Rattle.phys_lab.specs.Forests.{first_side_of};
 ghost use Rattle.phys_lab.specs.Kept.{IsLab};
@@ -20,7 +18,6 @@ ghost use Rattle.virt_topo.specs.Soundness.{IsSound};
 ghost use Rattle.virt_topo.specs.Cables.{cut_use};
 ghost use Rattle.plant.specs.Worlds.{World, world_after, world_of};
 ghost use Rattle.plant.specs.Events.{Event, Did};
-ghost use Rattle.plant.specs.Disks.{Disk, IsImage, wrote, synced};
 ghost use Rattle.plant.specs.declared.device.DeviceOp.{DeviceOp};
 ghost use Rattle.plant.specs.declared.device.Answer.{Answer};
 ghost use Rattle.plant.specs.declared.device.Fault.{Fault};

@@ -2,7 +2,7 @@
 ghost use Rattle.std.specs.Prelude.{◌≡◌, ◌++◌, ◌≤◌, ◌<◌, ◌^◌, ◌+◌, length, flat_map, IfOk, OnOk};
 ghost use Rattle.std.specs.List.{range_with_len};
 ghost use Rattle.lab_picture.specs.Places.{point_at};
-ghost use Rattle.lab_picture.specs.Lists.{run_wide, run_area, run_boxes, run_text, run_of, run_at, ids_words, strip_text, held_of, stand_word, name_class, plural, claim_words, swatch, entry_text, entry_in, entry_at, list_head, list_text};
+ghost use Rattle.lab_picture.specs.Lists.{run_wide, run_area, run_boxes, run_text, run_of, run_at, ids_words, strip_text, held_of, stand_word, name_class, plural, claim_words, swatch, entry_text, entry_at, list_head, list_text};
 
 use crate::bars::{bar_word, push_coloured, tint_word};
 use crate::geometry::{Geometry, Place, Point, mark_at, point_at};

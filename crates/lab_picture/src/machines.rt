@@ -1,10 +1,10 @@
 // Machines, as they are drawn.
-ghost use Rattle.std.specs.Prelude.{◌≡◌, ◌++◌, ◌≤◌, nat_le, length, map, flat_map, slice_get, IfOk, OnOk};
+ghost use Rattle.std.specs.Prelude.{◌≡◌, ◌++◌, nat_le, length, map, flat_map, slice_get, IfOk, OnOk};
 ghost use Rattle.std.specs.List.{range_with_len};
 ghost use Rattle.lab_view.specs.Views.{switch_name, exp_name};
 ghost use Rattle.lab_view.specs.Lines.{spaced};
-ghost use Rattle.lab_picture.specs.Shapes.{fitted, label};
-ghost use Rattle.lab_picture.specs.Machines.{names_text, first_name, listed, letters_in, type_words, plug_words, holder_words, tip, free_body, held_words, held_body, body, first_of, is_one, corner, corner_of, held_class, class_of, machine_text, machine_in, machine_at};
+ghost use Rattle.lab_picture.specs.Shapes.{fitted};
+ghost use Rattle.lab_picture.specs.Machines.{names_text, first_name, listed, letters_in, type_words, plug_words, holder_words, tip, free_body, held_words, held_body, body, first_of, is_one, corner, corner_of, held_class, class_of, machine_text, machine_at};
 
 use crate::bars::push_coloured;
 use crate::geometry::{Geometry, Place, place_at};

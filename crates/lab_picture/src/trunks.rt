@@ -1,5 +1,5 @@
 // Trunks, as they are drawn.
-ghost use Rattle.std.specs.Prelude.{◌≡◌, ◌++◌, ◌≤◌, length, flat_map, codes, IfOk, OnOk, slice_get};
+ghost use Rattle.std.specs.Prelude.{◌≡◌, ◌++◌, ◌≤◌, length, flat_map, IfOk, OnOk, slice_get};
 ghost use Rattle.std.specs.List.{range_with_len};
 ghost use Rattle.lab_picture.specs.Trunks.{use_words, case_text, core_wide, core_text, core_of, pipe, lined, trunk_at, ended, labelled, label_at};
 

@@ -1,5 +1,5 @@
 //! Records that follow one another, and the labs that they stand for.
-ghost use Rattle.std.specs.Prelude.{◌≡◌, IfOk};
+ghost use Rattle.std.specs.Prelude.{IfOk};
 ghost use Rattle.journal_rec.specs.Payloads.{IsRecord};
 
 use crate::texts::Texts;

@@ -1,5 +1,5 @@
 // The virtual nodes of an experiment on a node.
-ghost use Rattle.std.specs.Prelude.{◌≡◌, ◌++◌, ◌<◌, length, slice_get, IfOk, OnOk, filter, not};
+ghost use Rattle.std.specs.Prelude.{◌≡◌, ◌++◌, ◌<◌, length, slice_get, IfOk, OnOk};
 ghost use Rattle.lab_seen.specs.Claimed.{is_there, guest_nth, guests_of, guests_in, is_among, with_others, guests};
 
 use lab_base::{Items, Memory, Name};

@@ -1,5 +1,5 @@
 // Whole records whatever stands in their gates.
-ghost use Rattle.std.specs.Prelude.{◌≡◌, ◌<◌, length, IfOk};
+ghost use Rattle.std.specs.Prelude.{◌<◌, length, IfOk};
 ghost use Rattle.lab_sides.specs.Walks.{AreThere};
 
 use crate::body::record_in;

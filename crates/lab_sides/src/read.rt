@@ -1,5 +1,5 @@
 // The records of two sides.
-ghost use Rattle.std.specs.Prelude.{◌≡◌, ◌≤◌, length, IfOk};
+ghost use Rattle.std.specs.Prelude.{◌≡◌, IfOk};
 ghost use Rattle.plant.specs.Sides.{of_side};
 ghost use Rattle.journal_model.specs.Journals.{head, live, On};
 ghost use Rattle.lab_sides.specs.Reads.{IsRead};

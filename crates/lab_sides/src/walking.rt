@@ -1,5 +1,5 @@
 // The records of a side, gate after gate.
-ghost use Rattle.std.specs.Prelude.{◌≡◌, ◌≤◌, length, IfOk};
+ghost use Rattle.std.specs.Prelude.{◌≤◌, length, IfOk};
 ghost use Rattle.lab_sides.specs.Walks.{IsWalk};
 
 use crate::body::record_in;

@@ -1,5 +1,5 @@
 // The experiments of a lab.
-ghost use Rattle.std.specs.Prelude.{◌≡◌, ◌≤◌, ◌<◌, ◌++◌, ◌∷◌, [], length, map, slice_get, option_copied, is_some, Some, None, OnOk};
+ghost use Rattle.std.specs.Prelude.{◌≡◌, ◌≤◌, ◌<◌, ◌++◌, ◌∷◌, [], length, slice_get, option_copied, is_some, Some, None, OnOk};
 ghost use Rattle.virt_topo.specs.declared.experiment.Experiment.{Experiment as AnyExperiment};
 ghost use Rattle.records_model.specs.Labs.{find, others, replace};
 ghost use Rattle.lab_state.specs.Ends.{ended, kept_of};

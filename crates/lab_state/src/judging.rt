@@ -1,5 +1,5 @@
 // Judging records.
-ghost use Rattle.std.specs.Prelude.{◌≡◌, ◌<◌, length};
+ghost use Rattle.std.specs.Prelude.{◌<◌, length};
 ghost use Rattle.journal_rec.specs.declared.record.Record.TheVariants as records;
 ghost use Rattle.journal_rec.specs.declared.record.Way.TheVariants as ways;
 ghost use Rattle.journal_rec.specs.Payloads.{IsRecord};

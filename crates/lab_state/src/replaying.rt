@@ -1,9 +1,9 @@
 // The lab of a list of records.
-ghost use Rattle.std.specs.Prelude.{◌≡◌, map, IfOk};
+ghost use Rattle.std.specs.Prelude.{IfOk};
 ghost use Rattle.lab_base.specs.Lists.{Has};
 ghost use Rattle.journal_rec.specs.Payloads.{IsRecord};
 ghost use Rattle.journal_rec.specs.declared.record.Found.{Found as AnyFound};
-ghost use Rattle.records_model.specs.Labs.{at_first, LabOf, Follows};
+ghost use Rattle.records_model.specs.Labs.{LabOf};
 ghost use Rattle.lab_state.specs.Texts.{the_texts};
 ghost use Rattle.lab_state.specs.Replays.{records_of, IsFollowed, IsStopped};
 

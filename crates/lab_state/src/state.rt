@@ -1,4 +1,4 @@
-ghost use Rattle.std.specs.Prelude.{◌≡◌, ℕ, length, slice_get, option_copied, is_some, ◌≤◌, true, IfOk, IfSome, OnOk};
+ghost use Rattle.std.specs.Prelude.{◌≡◌, length, slice_get, option_copied, is_some, ◌≤◌, true, IfOk, IfSome, OnOk};
 ghost use Rattle.lab_base.specs.Lists.{Has};
 ghost use Rattle.journal_rec.specs.Payloads.{IsRecord};
 ghost use Rattle.virt_topo.specs.declared.experiment.Experiment.{Experiment as AnyExperiment};

@@ -1,5 +1,5 @@
 // Laws of flags.
-ghost use Rattle.std.specs.Prelude.{◌≡◌, ◌≢◌, ◌<◌, ◌≤◌, ℕ, length, map, Some};
+ghost use Rattle.std.specs.Prelude.{◌≡◌, ◌<◌, ◌≤◌, ℕ, length, map, Some};
 ghost use Rattle.lab_view.specs.declared.view.View.{View as AnyView};
 ghost use Rattle.lab_view.specs.declared.flags.Flag.{Flag as AnyFlag};
 ghost use Rattle.lab_view.specs.Views.{is_held_by};

@@ -1,7 +1,7 @@
 // The text of a lab: line by line who holds each machine, what is left of trunks and of VLAN ids, and which experiments move.
 ghost use Rattle.std.specs.Prelude.{◌≡◌, ◌≤◌, ◌<◌, ◌+◌, ◌++◌, length, IfOk, OnOk, flat_map, is_none, codes, ◌^◌, ◌∷◌, []};
 ghost use Rattle.std.specs.List.{range_with_len};
-ghost use Rattle.lab_view.specs.Lines.{held_word, spaced, seat_words, machine_line, line_under, lone_line, switch_lines, has_lone, lone_head, lone_part, lone_lines, left_of, unit_words, total_words, left_words, trunk_line, run_words, free_run, ids_line, way_words, move_line, phase_word, exp_lines, free_line, lines_of};
+ghost use Rattle.lab_view.specs.Lines.{held_word, spaced, seat_words, machine_line, line_under, lone_line, switch_lines, has_lone, lone_head, lone_part, lone_lines, left_of, unit_words, total_words, left_words, trunk_line, run_words, free_run, ids_line, move_line, phase_word, exp_lines, free_line, lines_of};
 ghost use Rattle.lab_view.specs.Views.{switch_name, exp_name};
 ghost use Rattle.lab_view.specs.Runs.{owner_at};
 

@@ -1,5 +1,5 @@
 // The pipes of an expansion.
-ghost use Rattle.std.specs.Prelude.{◌≡◌, ◌≤◌, ◌+◌, ◌++◌, OnOk, IfOk, map, length, sum_by};
+ghost use Rattle.std.specs.Prelude.{◌≡◌, ◌≤◌, ◌+◌, ◌++◌, OnOk, IfOk, map, sum_by};
 ghost use Rattle.std.specs.List.{flat_map, range_with_len};
 ghost use Rattle.net_plan.specs.Expansion.{numbered};
 ghost use Rattle.net_plan.specs.Parts.{is_shaped, delays, link_pipe, lan_pipe, pipes_of};

@@ -1,5 +1,5 @@
 // The segments of an expansion.
-ghost use Rattle.std.specs.Prelude.{◌≡◌, ◌≤◌, ◌+◌, ◌++◌, ◌∷◌, [], OnOk, IfOk, map, length, sum_by, true, false};
+ghost use Rattle.std.specs.Prelude.{◌≡◌, ◌≤◌, ◌+◌, ◌++◌, ◌∷◌, [], OnOk, IfOk, map, length, sum_by, false};
 ghost use Rattle.std.specs.List.{flat_map, range_with_len, enumerate_from};
 ghost use Rattle.net_plan.specs.Expansion.{numbered};
 ghost use Rattle.net_plan.specs.Parts.{is_shaped, IsExpandable, AreExpandable, delays, part};

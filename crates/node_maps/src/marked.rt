@@ -1,6 +1,5 @@
 // Candidates on nodes that are marked.
 ghost use Rattle.std.specs.Prelude.{◌≡◌, ◌<◌, [], true, length, map, slice_index_or, IfOk};
-ghost use Rattle.node_maps.specs.Kinds.{by_kind};
 ghost use Rattle.node_maps.specs.Marked.{marks_of};
 
 use crate::lists::{Candidates, Place};

@@ -1,5 +1,5 @@
 // The candidates of a virtual node.
-ghost use Rattle.std.specs.Prelude.{◌≡◌, ◌<◌, ◌≤◌, ◌++◌, map, filter, length, All, IfOk, OnOk, false, slice_index_or};
+ghost use Rattle.std.specs.Prelude.{◌≡◌, ◌<◌, ◌++◌, map, filter, length, All, IfOk, OnOk, false, slice_index_or};
 ghost use Rattle.lab_model.specs.Shapes.{IsFreeOf};
 ghost use Rattle.virt_topo.specs.Wirings.{virt_at};
 ghost use Rattle.node_maps.specs.NodeMaps.{lab_places, is_candidate, candidates as candidates_in};

@@ -1,6 +1,6 @@
 //! Judging commands.
 
-ghost use Rattle.std.specs.Prelude.{◌≡◌, ◌≤◌, length};
+ghost use Rattle.std.specs.Prelude.{◌≤◌, length};
 ghost use Rattle.ns_build.specs.Gives.{Gives};
 ghost use Rattle.ns_build.specs.Tasks.{judged, judged_keyword};
 

@@ -1,7 +1,7 @@
 //! The links and LANs of a network.
 
 ghost use Rattle.std.specs.Prelude.{◌≡◌, ◌<◌, ◌≤◌, ◌+◌, ◌++◌, ◌∷◌, ◌==◌, [], ℕ};
-ghost use Rattle.std.specs.Prelude.{length, count_by, position, nat_eq, None, Some, IfOk, OnOk, OnErr, if◌then◌else◌};
+ghost use Rattle.std.specs.Prelude.{length, count_by, position, nat_eq, None, Some, OnOk, OnErr, if◌then◌else◌};
 ghost use Rattle.indexmap.specs.IndexMap.{get, spare};
 ghost use Rattle.ns_build.specs.Networks.{changed_at, has_end, is_on, link_with};
 ghost use Rattle.ns_build.specs.Places.{noted};

@@ -1,5 +1,5 @@
 // Laws of the definitions.
-ghost use Rattle.std.specs.Prelude.{◌≡◌, List, ℕ, Ok};
+ghost use Rattle.std.specs.Prelude.{List, ℕ, Ok};
 ghost use Rattle.ns_text.specs.Wirings.{ScriptIsOne, ScriptOf, WiringIsOne, WiringOf};
 ghost use Rattle.ns_text.specs.declared.read.Script.{Script as AnyScript};
 

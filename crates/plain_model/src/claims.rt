@@ -1,5 +1,5 @@
 // The claims of experiments.
-ghost use Rattle.std.specs.Prelude.{◌≡◌, ◌++◌, not, map, length, IfOk, OnOk};
+ghost use Rattle.std.specs.Prelude.{◌≡◌, ◌++◌, not, map, IfOk, OnOk};
 ghost use Rattle.std.specs.List.{flat_map, list_all};
 ghost use Rattle.lab_model.specs.Claims.{tags_of, claimed_tags};
 ghost use Rattle.plain_model.specs.Holds.{shares_place, shares_in, shares, are_apart};

@@ -1,8 +1,7 @@
-ghost use Rattle.std.specs.Prelude.{◌≡◌, fold, false, None, Some, if◌then◌else◌, IfOk};
-ghost use Rattle.std.specs.Str.{bytes_eq};
+ghost use Rattle.std.specs.Prelude.{◌≡◌, fold, false, None, Some, if◌then◌else◌};
 ghost use Rattle.lab_base.specs.declared.boot.Boot.TheVariants.{Off};
 ghost use Rattle.plant.specs.Worlds.{is_row, row_after, told};
-ghost use Rattle.plain_model.specs.Rows.{row_then, has_row, os_then, boot_then, pipe_then, node_sent};
+ghost use Rattle.plain_model.specs.Rows.{row_then, has_row, os_then, boot_then, pipe_then};
 
 use lab_base::{Boot, Name, VlanId};
 use plant::{Answer, DeviceOp, Fault};

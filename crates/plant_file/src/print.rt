@@ -1,5 +1,4 @@
 ghost use Rattle.std.specs.Prelude.{◌≡◌, ◌++◌, true, OnOk, IfOk};
-ghost use Rattle.lab_base.specs.Names.{is_name};
 ghost use Rattle.line_text.specs.Printing.{line_text};
 ghost use Rattle.plant_file.specs.Lines.{entry_fields};
 ghost use Rattle.plant_file.specs.Printable.{is_printable};

@@ -1,5 +1,5 @@
-ghost use Rattle.std.specs.Prelude.{◌≡◌, ◌≤◌, ◌<◌, ◌+◌, List, ℕ, length, max, min, take, reverse, OnOk, OnErr, vec_len, vec_capacity};
-ghost use Rattle.plant.specs.Disks.{IsImage, Disk, put};
+ghost use Rattle.std.specs.Prelude.{◌≡◌, ◌≤◌, ◌<◌, ◌+◌, ℕ, length, max, min, take, reverse, OnOk, vec_len, vec_capacity};
+ghost use Rattle.plant.specs.Disks.{IsImage, put};
 ghost use Rattle.plant_mem.specs.Picks.{garbled, torn};
 
 use lab_base::Memory;
@@ -87,7 +87,7 @@ fn make_room(bytes: &mut Vec<u8>, most: usize, more: usize) -> Result<(), Memory
 }
 
 impl Face {
-    ghost use Rattle.std.specs.Prelude.{◌≡◌, ◌≤◌, ◌<◌, ◌+◌, [], ℕ, length, drop, take, reverse, IfOk, OnOk, OnErr, vec_len, vec_capacity};
+    ghost use Rattle.std.specs.Prelude.{◌≡◌, ◌≤◌, ◌<◌, ◌+◌, [], ℕ, length, take, reverse, IfOk, OnOk, vec_len, vec_capacity};
     ghost use Rattle.plant.specs.Disks.{at_once, wrote, synced, shortened};
     ghost use Rattle.plant_mem.specs.Picks.{left_by, torn};
     ghost use Rattle.plant_mem.specs.Faces.{disk_of, HasMore};

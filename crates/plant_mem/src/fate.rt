@@ -1,4 +1,4 @@
-ghost use Rattle.std.specs.Prelude.{◌≡◌, vec_len, vec_capacity};
+ghost use Rattle.std.specs.Prelude.{◌≡◌};
 ghost use Rattle.plant_mem.specs.DiskPlans.{fails_next, stops_next, counted_all, stop_counted};
 ghost use Rattle.plant_mem.specs.Fates.{met, has_effect};
 

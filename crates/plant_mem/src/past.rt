@@ -103,7 +103,7 @@ fn shorten_on(a: &mut Face, b: &mut Face, side: Side, size: usize)
 
 impl Past {
     ghost use Rattle.std.specs.Prelude.{◌≡◌, ◌≤◌, ◌<◌, ◌+◌, ◌++◌, ℕ, List, [], ◌∷◌, length};
-    ghost use Rattle.std.specs.Prelude.{take, drop, true, Ok, Err, IfOk, OnOk, OnErr, vec_len, vec_capacity};
+    ghost use Rattle.std.specs.Prelude.{take, drop, true, Ok, Err, IfOk, OnOk, vec_len, vec_capacity};
     ghost use Rattle.plant_mem.specs.Boots.{state_in, state_after, state_sent, answer_of};
     ghost use Rattle.plant.specs.Events as events;
     ghost use Rattle.plant.specs.Disks.{disk};

@@ -15,7 +15,7 @@ ghost use Rattle.plant.specs.declared.step.Side.{Side};
 ghost use Rattle.journal_rec.specs.declared.record.Record.{Record};
 ghost use Rattle.lab_model.specs.Holding.{Holding};
 ghost use Rattle.lab_model.specs.Parts.{Part};
-ghost use Rattle.lab_model.specs.Courses.{IsCommandOf, whole, next};
+ghost use Rattle.lab_model.specs.Courses.{IsCommandOf};
 ghost use Rattle.lab_model.specs.Leavings.{did};
 ghost use Rattle.lab_model.specs.Sound.{Standing};
 ghost use Rattle.journal_model.specs.Appends.{Run, All, added, IsReadable};

@@ -1,5 +1,5 @@
 // Laws on the swaps that a manager holds.
-ghost use Rattle.std.specs.Prelude.{◌≡◌, ◌↔◌, ◌++◌, ◌∷◌, [], ℕ, List, Option, is_none};
+ghost use Rattle.std.specs.Prelude.{◌≡◌, ◌↔◌, ℕ, List, Option, is_none};
 ghost use Rattle.lab_base.specs.Lists.{Has};
 ghost use Rattle.plant.specs.Told.{Told};
 ghost use Rattle.journal_rec.specs.declared.record.Record.{Record};

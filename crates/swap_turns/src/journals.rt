@@ -12,7 +12,7 @@ ghost use Rattle.journal_rec.specs.declared.record.Record.{Record};
 ghost use Rattle.journal_rec.specs.declared.record.Found.{Found};
 ghost use Rattle.lab_model.specs.Sound.{is_moving};
 ghost use Rattle.journal_model.specs.Journals.{Records, Bad, On, live, head, journal_length};
-ghost use Rattle.journal_model.specs.Appends.{All, Run, added};
+ghost use Rattle.journal_model.specs.Appends.{Run, added};
 ghost use Rattle.records_model.specs.Labs.{LabState, Texts, AreCanonical, LabOf, StopsAt, at_first};
 ghost use Rattle.records_model.specs.Works.{AtWork, IsSound, HasRoom, MayAppend};
 ghost use Rattle.journal_rec.specs.Packing.{ArePacked, side_length};

@@ -1,4 +1,4 @@
-ghost use Rattle.std.specs.Prelude.{◌≡◌, ◌<◌, ◌+◌, min, Result, OnOk, OnErr};
+ghost use Rattle.std.specs.Prelude.{◌≡◌, ◌<◌, ◌+◌, Result, OnOk, OnErr};
 ghost use Rattle.plant.specs.declared.device.Answer.{Answer as Answered};
 ghost use Rattle.plant.specs.declared.device.Fault.{Fault as Faulted};
 ghost use Rattle.plant.specs.declared.device.DeviceOp.TheVariants as ops;

@@ -1,6 +1,6 @@
 //! The branches of `if`.
 
-ghost use Rattle.std.specs.Prelude.{◌≡◌, ℕ, ◌+◌, ◌<◌, ◌≤◌, None, All, length, drop, map, option_map, IfOk, IfSome, MatchOption};
+ghost use Rattle.std.specs.Prelude.{◌≡◌, ◌+◌, ◌<◌, ◌≤◌, None, All, length, drop, map, option_map, IfOk, IfSome, MatchOption};
 ghost use Rattle.std.specs.Option.{ForSome};
 ghost use Rattle.tcl_eval.specs.Forms.{is_text, branches_of, more_branches, with_branch};
 ghost use Rattle.tcl_eval.specs.Short.{BranchLies, branching_of};

@@ -1,6 +1,6 @@
 //! The evaluation of texts.
 
-ghost use Rattle.std.specs.Prelude.{◌≡◌, ◌≢◌, ℕ, ◌+◌, ◌<◌, ◌≤◌, All, IfOk, OnOk, length, drop, Some};
+ghost use Rattle.std.specs.Prelude.{◌≡◌, ◌+◌, ◌<◌, ◌≤◌, All, IfOk, OnOk, length, drop, Some};
 ghost use Rattle.tcl_words.specs.Words.{LiesIn, CommandLiesIn};
 ghost use Rattle.tcl_eval.specs.Short.{AllShort};
 ghost use Rattle.tcl_eval.specs.Forms.{own};

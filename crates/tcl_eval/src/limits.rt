@@ -1,6 +1,6 @@
 //! The limits of a script.
 
-ghost use Rattle.std.specs.Prelude.{◌≡◌, ℕ, ◌+◌, ◌<◌, ◌≤◌, length, true, IfOk, IfErr, if◌then◌else◌};
+ghost use Rattle.std.specs.Prelude.{◌≡◌, ◌+◌, ◌<◌, ◌≤◌, length, true, IfOk, IfErr, if◌then◌else◌};
 ghost use Rattle.lab_base.specs.declared.fault.Kind.TheVariants as kinds;
 ghost use Rattle.tcl_eval.specs.declared.halts.Halt.TheVariants as halts;
 ghost use Rattle.tcl_eval.specs.Settings.{indexed_name};

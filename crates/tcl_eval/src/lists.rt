@@ -1,6 +1,6 @@
 //! Lists of elements, and words that are joined.
 
-ghost use Rattle.std.specs.Prelude.{◌≡◌, ℕ, ◌+◌, ◌<◌, ◌≤◌, length, drop, IfOk, IfSome};
+ghost use Rattle.std.specs.Prelude.{◌≡◌, ◌+◌, ◌<◌, ◌≤◌, length, drop, IfOk, IfSome};
 ghost use Rattle.std.specs.List.{prefix_len, list_all};
 ghost use Rattle.tcl_eval.specs.Ends.{Gives};
 ghost use Rattle.tcl_eval.specs.Forms.{listed, with_element, is_between, is_inside, is_special, is_plain, is_element, element_from, joined_by};

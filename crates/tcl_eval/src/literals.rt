@@ -1,6 +1,6 @@
 //! Numerals of expressions.
 
-ghost use Rattle.std.specs.Prelude.{◌≡◌, ℕ, ◌+◌, ◌<◌, ◌≤◌, length, take, drop, IfOk, IfErr, Ok, Err};
+ghost use Rattle.std.specs.Prelude.{◌≡◌, ◌+◌, ◌<◌, ◌≤◌, length, take, drop, IfOk, IfErr, Ok, Err};
 ghost use Rattle.tcl_eval.specs.Numbers.{Writes};
 ghost use Rattle.tcl_eval.specs.Operators.{digits_of, opening_of};
 ghost use Rattle.tcl_eval.specs.declared.openings.Opening.TheVariants.{Digits};

@@ -1,6 +1,6 @@
 //! The machine of an interpreter, and the commands that evaluate nothing.
 
-ghost use Rattle.std.specs.Prelude.{◌≡◌, ℕ, ◌≤◌, List, length, OnOk, IfOk, IfErr};
+ghost use Rattle.std.specs.Prelude.{◌≡◌, ℕ, ◌≤◌, List, length, OnOk, IfOk};
 ghost use Rattle.tcl_eval.specs.declared.commands.Own.TheVariants as owns;
 
 use crate::halts::Halt;

@@ -1,6 +1,6 @@
 //! The operators of expressions.
 
-ghost use Rattle.std.specs.Prelude.{◌≡◌, ◌≢◌, ℕ, ℤ, pos, negsuc, neg_ℤ, ◌+ℤ◌, ◌-ℤ◌, int_div, MatchBool};
+ghost use Rattle.std.specs.Prelude.{◌≡◌, ◌≢◌, pos, negsuc, neg_ℤ, ◌+ℤ◌, ◌-ℤ◌, int_div, MatchBool};
 ghost use Rattle.std.specs.Prelude.{◌+◌, ◌<◌, ◌≤◌, length, drop, IfSome, MatchOption, Ok, Err, IsTrue, ◌↔◌};
 ghost use Rattle.tcl_eval.specs.Numbers.{IsValue, IsNot, alive, Applies, IsDecided, IsNeeded, IsAgainst, IsAlong};
 ghost use Rattle.tcl_eval.specs.Settings.{IsSum};

@@ -1,7 +1,7 @@
 //! Brackets and indexes, which are passed over.
 
-ghost use Rattle.std.specs.Prelude.{◌≡◌, ◌≢◌, ℕ, ◌+◌, ◌<◌, ◌≤◌, length, slice_index, Ok, Err, Result, IfOk};
-ghost use Rattle.tcl_words.specs.Passes.{InBracket, IsBare, GoesOn, Passes, Leads, IsForward};
+ghost use Rattle.std.specs.Prelude.{◌≡◌, ◌≢◌, ◌+◌, ◌<◌, ◌≤◌, length, slice_index, Ok, Err, Result, IfOk};
+ghost use Rattle.tcl_words.specs.Passes.{InBracket, GoesOn, Passes, Leads, IsForward};
 ghost use Rattle.tcl_words.specs.Gives.{Finds};
 ghost use Rattle.tcl_words.specs.declared.frame.Frame.TheVariants as frames;
 ghost use Rattle.tcl_words.specs.declared.frame.Place.TheVariants as places;

@@ -1,6 +1,6 @@
 //! The parts of words.
 
-ghost use Rattle.std.specs.Prelude.{◌≡◌, ℕ, ◌+◌, ◌^◌, ◌<◌, ◌≤◌, ◌++◌, All, IfOk, OnOk, IsOk, length, drop, false};
+ghost use Rattle.std.specs.Prelude.{◌≡◌, ◌+◌, ◌^◌, ◌<◌, ◌≤◌, ◌++◌, All, IfOk, OnOk, IsOk, length, drop, false};
 ghost use Rattle.std.specs.Option.{ForSome};
 ghost use Rattle.tcl_words.specs.Passes.{Passes};
 ghost use Rattle.tcl_words.specs.Gives.{Finds};

@@ -1,6 +1,6 @@
 //! The commands of a text.
 
-ghost use Rattle.std.specs.Prelude.{◌≡◌, ℕ, ◌+◌, ◌<◌, ◌≤◌, All, Ok, IfOk, IfErr, length, drop};
+ghost use Rattle.std.specs.Prelude.{◌≡◌, ◌+◌, ◌<◌, ◌≤◌, All, Ok, IfOk, IfErr, length, drop};
 ghost use Rattle.tcl_words.specs.Gives.{Finds};
 ghost use Rattle.tcl_words.specs.Words.{gap_of, feeds_of, line_at, CommandsOf, IsRefused, CommandLiesIn};
 

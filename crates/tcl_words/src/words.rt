@@ -1,6 +1,6 @@
 //! The words of a command.
 
-ghost use Rattle.std.specs.Prelude.{◌≡◌, ◌≢◌, ℕ, ◌^◌, ◌<◌, ◌≤◌, All, IfOk, length, drop, slice_index, false};
+ghost use Rattle.std.specs.Prelude.{◌≡◌, ◌≢◌, ◌^◌, ◌<◌, ◌≤◌, All, IfOk, length, drop, slice_index, false};
 ghost use Rattle.tcl_words.specs.Gives.{Finds};
 ghost use Rattle.tcl_words.specs.Words.{WordOf, WordsOf, word, WordLiesIn, WordBeginsAt};
 ghost use Rattle.tcl_words.specs.Tokens.{is_word_end, is_command_end, blank_of};

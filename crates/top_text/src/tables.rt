@@ -1,5 +1,5 @@
 // Tables of the names, the addresses and the ends of the wiring so far.
-ghost use Rattle.std.specs.Prelude.{◌≡◌, ◌<◌, ◌≤◌, ◌++◌, ◌∷◌, ◌&&◌, ◌||◌, ℕ, [], false};
+ghost use Rattle.std.specs.Prelude.{◌≡◌, ◌<◌, ◌++◌, ◌∷◌, ◌&&◌, ◌||◌, ℕ, [], false};
 ghost use Rattle.std.specs.Prelude.{true, nat_eq, nat_lt, length, map, position, slice_index_or, slice_set, IfOk, IfSome, OnOk};
 ghost use Rattle.std.specs.List.{list_any, list_all};
 ghost use Rattle.lab_base.specs.Names.{same_name};

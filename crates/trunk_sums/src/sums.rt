@@ -1,5 +1,5 @@
 // Running sums over trunks.
-ghost use Rattle.std.specs.Prelude.{◌≡◌, ◌<◌, ◌≤◌, ◌+◌, ◌*◌, ◌-◌, ◌⊎◌, ◌^◌, ℕ, min, true, false, length, slice_index_or, slice_set, All, sum_by};
+ghost use Rattle.std.specs.Prelude.{◌≡◌, ◌<◌, ◌≤◌, ◌+◌, ◌*◌, ◌-◌, ◌⊎◌, ◌^◌, ℕ, true, false, length, slice_index_or, slice_set, All, sum_by};
 ghost use Rattle.trunk_sums.specs.Counts.{share, after};
 ghost use Rattle.trunk_sums.specs.Crossed.{ups, downs};
 

@@ -1,6 +1,6 @@
 // The ends of a wiring.
 ghost use Rattle.std.specs.Prelude.{◌≡◌, ◌<◌, ◌≤◌, ◌+◌, ℕ, List, length, map};
-ghost use Rattle.virt_topo.specs.Ends.{end_nodes, end_number};
+ghost use Rattle.virt_topo.specs.Ends.{end_nodes};
 ghost use Rattle.virt_topo.specs.Soundness.{end_of};
 ghost use Rattle.virt_topo.specs.Sought.{IsSought};
 

@@ -1,5 +1,5 @@
 // Whether the quantities of a wiring keep their limits.
-ghost use Rattle.std.specs.Prelude.{◌≡◌, ◌≤◌, length, nat_le};
+ghost use Rattle.std.specs.Prelude.{◌≡◌, length, nat_le};
 ghost use Rattle.std.specs.List.{list_all};
 ghost use Rattle.virt_topo.specs.Ends.{end_nodes};
 ghost use Rattle.virt_topo.specs.Soundness.{is_between, is_address, is_speed, are_rates, limits_class, limits_node, limits_segment, limits_pipe, keeps_limits};
