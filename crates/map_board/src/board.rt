@@ -15,7 +15,7 @@ use lab_base::{Items, Memory, NodeId};
 use node_maps::{Given, Place, has_room};
 use std::alloc::Global;
 use std::mem;
-use trunk_sums::{Change, Sums, are_rising};
+use trunk_sums::{Change, Sums, are_apart};
 use virt_topo::Mapping;
 
 /// A node map, and what is kept of it.
@@ -34,7 +34,7 @@ pub struct Board {
 impl Board {
     ghost use Rattle.cost_rule.specs.Cost.{soft as soft_in};
     ghost use Rattle.cost_rule.specs.Parts.{parts_of};
-    ghost use Rattle.trunk_sums.specs.Foreseen.{AreRising};
+    ghost use Rattle.trunk_sums.specs.Foreseen.{AreApart};
     ghost use Rattle.trunk_sums.specs.Remade.{remade, AreChanges};
     ghost use Rattle.map_board.specs.Seated.{IsCrowded, IsFull, placed_at};
     ghost use Rattle.map_board.specs.Unmade.{unmade};
@@ -92,16 +92,16 @@ impl Board {
         }
     }
 
-    /// The parts of the cost once what is planned is made, exactly where its changes are of segments that rise.
+    /// The parts of the cost once what is planned is made, exactly where no two of its changes are of one segment.
     pub fn foreseen(&self, setting: &Setting) -> Option<Parts>
         requires setting { IsSetting setting.now }
         requires laid { IsLaid setting.now self.now }
         requires changes { AreChanges setting.now.mapper.lab.now setting.now.mapper.wiring.now self.now.changes.items }
         ensures parts { IfSome result (λ parts. parts ≡ parts_of setting.now.mapper.lab.now setting.now.mapper.wiring.now (planned self.now)) }
-        ensures told { IsSome result ↔ AreRising self.now.changes.items }
+        ensures told { IsSome result ↔ AreApart self.now.changes.items }
         ensures shaped { IsShaped setting.now.mapper.lab.now setting.now.mapper.wiring.now (planned self.now) }
     {
-        if !are_rising(&self.changes) {
+        if !are_apart(&self.changes) {
             return None;
         }
         let mapper = setting.mapper;

@@ -1,5 +1,5 @@
 -- One change, and the sum of the uses.
-use Rattle.std.proofs.Common.{◌≡◌, ◌<◌, ◌≤◌, ◌+◌, ◌-◌, ◌*◌, ◌∙◌, ◌∷◌, [], ℕ, zero, suc, true, List, length, get_or, All, refl, ap, sym, arith}
+use Rattle.std.proofs.Common.{◌≡◌, ◌≢◌, ◌<◌, ◌≤◌, ◌+◌, ◌-◌, ◌*◌, ◌∙◌, ◌∷◌, [], ℕ, zero, suc, true, List, length, get_or, All, refl, ap, sym, arith}
 use Rattle.std.proofs.Math.ListN.{set}
 use Rattle.std.proofs.Math.Nat.{add-mul}
 use Rattle.std.proofs.lemmas.List.{length-set}
@@ -64,13 +64,12 @@ change_is lab w plugs others end row to x add take summed of_row plugged count s
 
 -- CHANGES OF OTHER SEGMENTS
 -- they leave a segment its plugs
-pub own_kept : (w : Wiring) (plugs : List IfaceId) (cs : List Change) (s : ℕ) → All (λ c. IsRow w c.end c.row) cs → All (λ c. c.row.segment < s) cs
+pub own_kept : (w : Wiring) (plugs : List IfaceId) (cs : List Change) (s : ℕ) → All (λ c. IsRow w c.end c.row) cs → All (λ c. c.row.segment ≢ s) cs
     → own_plugs w.segments (remade plugs cs) s ≡ own_plugs w.segments plugs s
-own_kept w plugs [] s rows less = refl
-own_kept w plugs (c ∷ cs) s rows less =
-    let lt : c.row.segment < s = less 0 c (omega arith) in
-    own_kept w (set plugs c.end c.to) cs s (λ j d j_lt. rows (suc j) d (omega (arith, j_lt))) (λ j d j_lt. less (suc j) d (omega (arith, j_lt)))
-    ∙ other_after w.segments plugs c.row.segment c.end s c.to (is_in w c.end c.row (rows 0 c (omega arith))) (λ e. absurd (omega (arith, e, lt)))
+own_kept w plugs [] s rows others = refl
+own_kept w plugs (c ∷ cs) s rows others =
+    own_kept w (set plugs c.end c.to) cs s (λ j d j_lt. rows (suc j) d (omega (arith, j_lt))) (λ j d j_lt. others (suc j) d (omega (arith, j_lt)))
+    ∙ other_after w.segments plugs c.row.segment c.end s c.to (is_in w c.end c.row (rows 0 c (omega arith))) (λ e. others 0 c (omega arith) (sym e))
 
 pub remade_length : (plugs : List IfaceId) (cs : List Change) → length (remade plugs cs) ≡ length plugs
 remade_length plugs [] = refl

@@ -7,7 +7,7 @@ ghost use Rattle.trunk_sums.specs.Between.{IsTable};
 ghost use Rattle.trunk_sums.specs.Summed.{IsRow, IsSummed, own_plugs};
 ghost use Rattle.trunk_sums.specs.Totals.{used_of_all};
 ghost use Rattle.trunk_sums.specs.Remade.{remade, AreChanges};
-ghost use Rattle.trunk_sums.specs.Foreseen.{AreRising};
+ghost use Rattle.trunk_sums.specs.Foreseen.{AreApart, AreRising};
 
 use crate::gains::kbps_of;
 use crate::made::Change;
@@ -15,10 +15,10 @@ use crate::sums::Sums;
 use crate::table::Crossings;
 use lab_base::IfaceId;
 use phys_lab::{Lab, MAX_TRUNKS};
-use virt_topo::{MAX_KBPS, Wiring};
+use virt_topo::{MAX_KBPS, MAX_SEGMENTS, Wiring};
 
 /// Whether each change is of a later segment than those before it.
-pub fn are_rising(changes: &[Change]) -> bool
+fn are_rising(changes: &[Change]) -> bool
     ensures rising { IsTrue result → AreRising changes.now }
     ensures told { AreRising changes.now → IsTrue result }
 {
@@ -31,6 +31,33 @@ pub fn are_rising(changes: &[Change]) -> bool
         from = segment + 1;
     }
     true
+}
+
+/// Whether no two changes are of one segment, by a table of the segments that are seen.
+fn are_seen_once(changes: &[Change]) -> bool
+    requires { All (λ c. c.row.segment < MAX_SEGMENTS) changes.now }
+    ensures apart { IsTrue result → AreApart changes.now }
+    ensures told { AreApart changes.now → IsTrue result }
+{
+    let mut seen = [false; MAX_SEGMENTS];
+    for change in changes {
+        let segment = change.row.segment as usize;
+        if seen[segment] {
+            return false;
+        }
+        seen[segment] = true;
+    }
+    true
+}
+
+/// Whether no two changes are of one segment.
+pub fn are_apart(changes: &[Change]) -> bool
+    requires { All (λ c. c.row.segment < MAX_SEGMENTS) changes.now }
+    ensures apart { IsTrue result → AreApart changes.now }
+    ensures told { AreApart changes.now → IsTrue result }
+{
+    // those of most moves rise, which asks for no table
+    are_rising(changes) || are_seen_once(changes)
 }
 
 /// The kbps that a change adds to the uses of all trunks, and those that it takes.
@@ -76,7 +103,7 @@ impl Sums {
         }
     }
 
-    /// The sum of the uses of all trunks after changes that aren't made, each of a later segment than those before it.
+    /// The sum of the uses of all trunks after changes that aren't made, each of another segment.
     pub fn total_after(
         &self,
         lab: &Lab,
@@ -90,7 +117,7 @@ impl Sums {
         requires in_lab { All (λ i. i.0 < length lab.now.ifaces) plugs.now }
         requires table { IsTable lab.now table.now }
         requires changes { AreChanges lab.now wiring.now changes.now }
-        requires rising { AreRising changes.now }
+        requires apart { AreApart changes.now }
         requires summed { IsSummed lab.now wiring.now plugs.now self.now }
         ensures { result ≡ used_of_all lab.now wiring.now (remade plugs.now changes.now) }
     {

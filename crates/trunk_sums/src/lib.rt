@@ -10,7 +10,7 @@ mod sums;
 mod table;
 
 pub use crossing::Crossing;
-pub use foreseen::are_rising;
+pub use foreseen::are_apart;
 pub use gains::Gains;
 pub use made::{Change, law_of_taking_back};
 pub use sums::{EndRow, Sums};

@@ -1,10 +1,18 @@
-use Rattle.std.proofs.Common.{◌∙◌}
+use Rattle.std.proofs.Common.{◌<◌, ◌∙◌, List, All, sym, subst, arith}
+use Rattle.virt_topo.proofs.CableLaws.{sound_limits}
+use Rattle.trunk_sums.specs.declared.made.Change.{Change}
 use Rattle.trunk_sums.specs.Totals.{used_of_all}
 use Rattle.trunk_sums.specs.Remade.{remade}
 use Rattle.map_board.specs.Planned.{planned}
 use Rattle.map_board.proofs.PartSums.{uses_are}
 use Rattle.map_board.proofs.PlannedLaws.{planned_shaped}
 use Rattle.map_board.proofs.board.Board.foreseen.Goals as goal
+
+pub are_apart-requires : goal.are_apart-requires
+are_apart-requires c =
+    let few = (sound_limits c.args.setting.now.mapper.wiring.now c.requires.setting.mapper.sound).segments in
+    subst (λ (l : List Change). All (λ (y : Change). y.row.segment < 512) l) (sym c.deref.ensures.value)
+    (λ k d lt. (let here = (c.requires.changes.rows k d lt).segment in omega (arith, here, few)))
 
 pub returns-clause-parts : goal.returns-clause-parts
 returns-clause-parts c =
@@ -22,5 +30,5 @@ returns-clause-parts c =
 pub returns-clause-shaped : goal.returns-clause-shaped
 returns-clause-shaped c = planned_shaped c.args.setting.now c.args.self.now c.requires.laid c.requires.changes
 
-pub returns-then-not-are_rising-clause-shaped : goal.returns-then-not-are_rising-clause-shaped
-returns-then-not-are_rising-clause-shaped c = planned_shaped c.args.setting.now c.args.self.now c.requires.laid c.requires.changes
+pub returns-then-not-are_apart-clause-shaped : goal.returns-then-not-are_apart-clause-shaped
+returns-then-not-are_apart-clause-shaped c = planned_shaped c.args.setting.now c.args.self.now c.requires.laid c.requires.changes

@@ -1,4 +1,4 @@
-use Rattle.std.proofs.Common.{◌≡◌, ◌<◌, ◌+◌, ◌∙◌, ℕ, List, length, take, get_or, ap, sym, subst, arith}
+use Rattle.std.proofs.Common.{◌≡◌, ◌≢◌, ◌<◌, ◌+◌, ◌∙◌, ℕ, List, length, take, get_or, ap, sym, subst, arith}
 use Rattle.std.proofs.Math.ListN.{set}
 use Rattle.std.proofs.lemmas.List.{get_or-take, length-take-le}
 use Rattle.std.proofs.lemmas.List.Elements.{All-take}
@@ -10,7 +10,7 @@ use Rattle.trunk_sums.specs.declared.made.Change.{Change}
 use Rattle.trunk_sums.specs.Summed.{IsRow, own_plugs, used}
 use Rattle.trunk_sums.specs.Totals.{sum_below, used_of_all}
 use Rattle.trunk_sums.specs.Remade.{remade, AreChanges}
-use Rattle.trunk_sums.specs.Foreseen.{AreRising}
+use Rattle.trunk_sums.specs.Foreseen.{AreApart}
 use Rattle.trunk_sums.proofs.RemadeLaws.{remade_more}
 use Rattle.trunk_sums.proofs.TotalLaws.{sum_is}
 use Rattle.trunk_sums.proofs.ShareLaws.{own_kept, remade_length, used_bound}
@@ -36,13 +36,13 @@ overflow_add-total c =
     omega (arith, few, c.loop-change.invariant.total, c.gain-gain.ensures.small)
 
 -- the changes before the one at k leave its segment its plugs
-own_before : (lab : Lab) (w : Wiring) (plugs : List IfaceId) (cs : List Change) (k : ℕ) → k < length cs → AreChanges lab w cs → AreRising cs
+own_before : (lab : Lab) (w : Wiring) (plugs : List IfaceId) (cs : List Change) (k : ℕ) → k < length cs → AreChanges lab w cs → AreApart cs
     → own_plugs w.segments (remade plugs (take k cs)) (get_or cs k none).row.segment ≡ own_plugs w.segments plugs (get_or cs k none).row.segment
-own_before lab w plugs cs k here are rising =
+own_before lab w plugs cs k here are apart =
     let c : Change = get_or cs k none in
     own_kept w plugs (take k cs) c.row.segment (All-take (λ (y : Change). IsRow w y.end y.row) k cs are.rows) (λ j d j_lt.
     let within : j < k = (let count = length-take-le k cs (omega (arith, here)) in omega (arith, j_lt, count)) in
-    subst (λ (y : Change). y.row.segment < c.row.segment) (sym (get_or-take k cs j d within)) (rising j k d none within here))
+    subst (λ (y : Change). y.row.segment ≢ c.row.segment) (sym (get_or-take k cs j d within)) (apart j k d none within here))
 
 -- the uses with the change at k, behind those before it
 next_used : (lab : Lab) (w : Wiring) (plugs : List IfaceId) (cs : List Change) (k : ℕ) → k < length cs
@@ -56,7 +56,7 @@ overflow_sub-total c =
     let cs = c.args.changes.now in
     let k = c.loop-change.change-index in
     let here = c.loop-change-test.true in
-    let is = c.gain-gain.ensures.is (remade plugs (take k cs)) (remade_length plugs (take k cs) ∙ c.requires.plugged) (own_before c.args.lab.now w plugs cs k here c.requires.changes c.requires.rising) in
+    let is = c.gain-gain.ensures.is (remade plugs (take k cs)) (remade_length plugs (take k cs) ∙ c.requires.plugged) (own_before c.args.lab.now w plugs cs k here c.requires.changes c.requires.apart) in
     omega (arith, is, c.loop-change.invariant.total)
 
 pub loop-change-preserved : goal.loop-change-preserved
@@ -66,6 +66,6 @@ loop-change-preserved c =
     let cs = c.args.changes.now in
     let k = c.loop-change.change-index in
     let here = c.loop-change-test.true in
-    let is = c.gain-gain.ensures.is (remade plugs (take k cs)) (remade_length plugs (take k cs) ∙ c.requires.plugged) (own_before c.args.lab.now w plugs cs k here c.requires.changes c.requires.rising) in
+    let is = c.gain-gain.ensures.is (remade plugs (take k cs)) (remade_length plugs (take k cs) ∙ c.requires.plugged) (own_before c.args.lab.now w plugs cs k here c.requires.changes c.requires.apart) in
     let next = next_used c.args.lab.now w plugs cs k here in
     record { total = omega (arith, is, next, c.loop-change.invariant.total) }
