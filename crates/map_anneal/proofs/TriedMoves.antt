@@ -1,12 +1,17 @@
 -- Known candidates of a virtual node that were tried.
 use Rattle.std.proofs.Common.{◌≡◌, ◌<◌, ◌≤◌, ◌∙◌, inl, inr, ℕ, Bool, List, [], length, get_or, true, false, cond, Option, Some, None, ap, sym, subst, get_or-set_same, get_or-set_other}
+use Rattle.std.specs.Prelude.{IsTrue, ◌↔◌}
 use Rattle.std.proofs.Math.ListN.{set}
 use Rattle.std.proofs.lemmas.Bool.{cases_eq}
 use Rattle.std.proofs.lemmas.List.{length-set, get_or_default}
 use Rattle.std.proofs.lemmas.Option.{same_Some}
+use Rattle.phys_lab.specs.Labs.{Lab}
+use Rattle.virt_topo.specs.declared.wiring.Wiring.{Wiring}
 use Rattle.virt_topo.specs.declared.mapping.Mapping.{Mapping}
 use Rattle.lab_model.specs.Shapes.{Place}
 use Rattle.lab_model.specs.Rules.{no_place}
+use Rattle.lab_model.specs.Feasible.{AllPass}
+use Rattle.node_maps.specs.Moved.{has_class_type, KeepsPlaces, may_share}
 use Rattle.node_maps.proofs.Assembled.{parts_of_map}
 use Rattle.node_maps.proofs.MapLaws.{mapped_is}
 use Rattle.map_anneal.specs.Sought.{Sought, candidates_at, mapped, moved, price, IsNoCheaper, NoMove}
@@ -61,3 +66,10 @@ settled_no_less s below places m is least plugs kept =
 -- what settles is the map
 pub settled_is : (kept : Bool) (o : Option Mapping) (m : Mapping) → kept ≡ true → o ≡ cond kept (Some m) None → o ≡ Some m
 settled_is kept o m is found = subst (λ (b : Bool). o ≡ cond b (Some m) None) is found
+
+-- where virtual nodes may not stay on two nodes, no plugs make a map of these places
+pub never_kept : (lab : Lab) (w : Wiring) (places : List Place) (a b : ℕ) (stays : Bool) → (IsTrue stays ↔ KeepsPlaces lab w places a b) → stays ≡ false → a < length lab.nodes → b < length lab.nodes
+    → AllPass (length lab.nodes) (may_share lab w places) → AllPass (length w.nodes) (has_class_type w places) → ⊥
+never_kept lab w places a b stays test off a_lt b_lt shared typed =
+    let both : false ≡ true = sym off ∙ test.1 (record { first = shared a a_lt; second = shared b b_lt; typed = typed }) in
+    absurd (cc both)

@@ -157,6 +157,10 @@ impl Tried {
             self.weighed = true;
             return Ok(false);
         }
+        if !self.board.may_stay(alloc, &setting, first.0, second.0)? {
+            self.weighed = true;
+            return Ok(false);
+        }
         if !self.board.settle(alloc, &setting, first.0, second.0)? {
             self.board.take_back(alloc, &setting);
             return Ok(false);

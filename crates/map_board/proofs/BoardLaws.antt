@@ -237,14 +237,6 @@ not_joined lab free w m b given test off =
     let both : false ≡ true = sym off ∙ test.1 joined in
     absurd (cc both))
 
--- where one of two nodes can't be shared, that is no node map
-pub not_both : (lab : Lab) (free : Free) (w : Wiring) (m : Mapping) (a b : ℕ) → a < length lab.nodes → b < length lab.nodes
-    → (may_share lab w m.places a && may_share lab w m.places b) ≡ false → node_map lab free w m.places ≡ None
-not_both lab free w m a b a_lt b_lt is =
-    no_map lab free w m.places (λ plugs all.
-    let both : (may_share lab w m.places a && may_share lab w m.places b) ≡ true = (λ j. all.shared a a_lt j && all.shared b b_lt j) in
-    absurd (cc (is, both)))
-
 -- THE PLUGS THAT ARE PLANNED
 pub placed_ends : (x : Setting) (places : List Place) → IsSetting x → length places ≡ length x.mapper.wiring.now.nodes → All (λ (e : End). e.node < length places) x.mapper.ends.now
 placed_ends x places is count =

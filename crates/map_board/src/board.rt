@@ -2,6 +2,7 @@
 ghost use Rattle.std.specs.Prelude.{◌≡◌, ◌↔◌, true, false, ◌<◌, [], List, Some, None, length, slice_index_or, if◌then◌else◌, Contains, IfOk, OnOk, IfSome, IsSome, IsTrue};
 ghost use Rattle.lab_model.specs.Shapes.{Place as PlaceSeen, IsShaped};
 ghost use Rattle.node_maps.specs.NodeMaps.{candidates, IsChoice, node_map, plugs_of};
+ghost use Rattle.node_maps.specs.Moved.{KeepsPlaces};
 ghost use Rattle.map_board.specs.Tables.{IsSetting};
 ghost use Rattle.map_board.specs.Boards.{IsLaid, IsBoard, IsPlanned, Was};
 
@@ -321,42 +322,28 @@ impl Board {
     }
 
     /// Whether a mapping keeps the eight rules. Its plugs are those of the interface rule. Before the last try it was a node map, and the places
-    /// differ from that one's on two nodes alone.
-    fn is_kept(
-        &self,
-        alloc: Global,
-        setting: &Setting,
-        first: NodeId,
-        second: NodeId,
-    ) -> Result<bool, Memory>
+    /// differ from that one's on two nodes alone, and may stay.
+    fn is_kept(&self, setting: &Setting, _first: NodeId, _second: NodeId) -> bool
         requires setting { IsSetting setting.now }
         requires laid { IsLaid setting.now self.now }
-        requires first { first.0 < length setting.now.mapper.lab.now.nodes }
-        requires second { second.0 < length setting.now.mapper.lab.now.nodes }
+        requires first { _first.0 < length setting.now.mapper.lab.now.nodes }
+        requires second { _second.0 < length setting.now.mapper.lab.now.nodes }
+        requires stays { KeepsPlaces setting.now.mapper.lab.now setting.now.mapper.wiring.now self.now.mapping.places _first.0 _second.0 }
         requires backward { AreChanges setting.now.mapper.lab.now setting.now.mapper.wiring.now self.now.back.items }
-        ensures { IfOk result (λ yes. (last : List PlaceSeen)
-            → Was setting.now self.now.mapping.places (unmade self.now.mapping.plugs self.now.back.items) first.0 second.0 last
+        ensures { (last : List PlaceSeen)
+            → Was setting.now self.now.mapping.places (unmade self.now.mapping.plugs self.now.back.items) _first.0 _second.0 last
             → plugs_of setting.now.mapper.lab.now setting.now.mapper.wiring.now self.now.mapping.places ≡ Some self.now.mapping.plugs
             → node_map setting.now.mapper.lab.now setting.now.mapper.free.now setting.now.mapper.wiring.now self.now.mapping.places
-            ≡ (if yes then Some self.now.mapping else None)) }
+            ≡ (if result then Some self.now.mapping else None) }
     {
         let mapper = setting.mapper;
         // for the prover: it tells what every lab keeps
         let _kept = mapper.lab.range();
-        if !self.has_types(setting) {
-            return Ok(false);
-        }
-        if !self.may_share_both(alloc, setting, first, second)? {
-            return Ok(false);
-        }
-        if !self.is_still_joined(setting) {
-            return Ok(false);
-        }
-        Ok(has_room(mapper.free, self.sums.uses()))
+        self.is_still_joined(setting) && has_room(mapper.free, self.sums.uses())
     }
 
-    /// Makes the planned changes of the ends on two nodes, where virtual nodes of a node map went from one of them to the other. False where the
-    /// outcome is no node map.
+    /// Makes the planned changes of the ends on two nodes, where virtual nodes of a node map went from one of them to the other and may stay.
+    /// False where the outcome is no node map.
     pub fn settle(
         &mut self,
         alloc: Global,
@@ -369,6 +356,7 @@ impl Board {
         requires first { first.0 < length setting.now.mapper.lab.now.nodes }
         requires second { second.0 < length setting.now.mapper.lab.now.nodes }
         requires planned { IsPlanned setting.now self.old.mapping.places first.0 second.0 self.old.changes.items }
+        requires stays { KeepsPlaces setting.now.mapper.lab.now setting.now.mapper.wiring.now self.old.mapping.places first.0 second.0 }
         requires none { self.old.back.items ≡ [] }
         ensures laid { OnOk result (IsLaid setting.now self.new) }
         ensures places { OnOk result (self.new.mapping.places ≡ self.old.mapping.places) }
@@ -379,7 +367,6 @@ impl Board {
             ≡ (if yes then Some self.new.mapping else None)) }
     {
         self.make(alloc, setting)?;
-        let yes = self.is_kept(alloc, setting, first, second)?;
-        Ok(yes)
+        Ok(self.is_kept(setting, first, second))
     }
 }

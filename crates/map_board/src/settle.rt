@@ -4,7 +4,7 @@ ghost use Rattle.lab_model.specs.Shapes.{Place as PlaceSeen};
 ghost use Rattle.lab_model.specs.Rules.{keeps_f7, keeps_f8};
 ghost use Rattle.lab_model.specs.Feasible.{AllPass};
 ghost use Rattle.node_maps.specs.NodeMaps.{node_map};
-ghost use Rattle.node_maps.specs.Moved.{has_class_type, may_share};
+ghost use Rattle.node_maps.specs.Moved.{has_class_type, KeepsPlaces, may_share};
 ghost use Rattle.map_board.specs.Tables.{IsSetting};
 ghost use Rattle.map_board.specs.Boards.{IsLaid};
 ghost use Rattle.map_board.specs.Chosen.{IsSettled};
@@ -53,7 +53,7 @@ impl Board {
     }
 
     /// Whether the virtual nodes on each of two nodes may share it.
-    pub(crate) fn may_share_both(
+    fn may_share_both(
         &self,
         alloc: Global,
         setting: &Setting,
@@ -76,12 +76,35 @@ impl Board {
     }
 
     /// Whether the members of each class of weight 1,000 or more have one type.
-    pub(crate) fn has_types(&self, setting: &Setting) -> bool
+    fn has_types(&self, setting: &Setting) -> bool
         requires setting { IsSetting setting.now }
         requires laid { IsLaid setting.now self.now }
         ensures { IsTrue result ↔ AllPass (length setting.now.mapper.wiring.now.nodes) (has_class_type setting.now.mapper.wiring.now self.now.mapping.places) }
     {
         are_kept(&setting.table.ties, self.mapping.places.as_slice())
+    }
+
+    /// Whether virtual nodes that went to two nodes may stay there: those on each of the two may share it, and the members of each class of
+    /// weight 1,000 or more have one type.
+    pub fn may_stay(
+        &self,
+        alloc: Global,
+        setting: &Setting,
+        first: NodeId,
+        second: NodeId,
+    ) -> Result<bool, Memory>
+        requires setting { IsSetting setting.now }
+        requires laid { IsLaid setting.now self.now }
+        requires first { first.0 < length setting.now.mapper.lab.now.nodes }
+        requires second { second.0 < length setting.now.mapper.lab.now.nodes }
+        ensures { IfOk result (λ yes. IsTrue yes
+            ↔ KeepsPlaces setting.now.mapper.lab.now setting.now.mapper.wiring.now self.now.mapping.places first.0 second.0) }
+    {
+        if !self.has_types(setting) {
+            return Ok(false);
+        }
+        let yes = self.may_share_both(alloc, setting, first, second)?;
+        Ok(yes)
     }
 
     /// Whether the plugs of each segment are on switches that are joined.

@@ -1,13 +1,16 @@
 use Rattle.std.proofs.Common.{◌≡◌, ◌≤◌, ◌∙◌, ℕ, Option, Some, None, ap, sym, subst, arith}
+use Rattle.std.specs.Prelude.{IsTrue, ◌↔◌}
 use Rattle.std.proofs.lemmas.Option.{none-some}
 use Rattle.virt_topo.specs.declared.mapping.Mapping.{Mapping}
 use Rattle.node_maps.specs.NodeMaps.{node_map, plugs_of}
+use Rattle.node_maps.specs.Moved.{KeepsPlaces}
+use Rattle.node_maps.proofs.Assembled.{parts_of_map}
 use Rattle.node_maps.proofs.MovedLaws.{no_plugs}
 use Rattle.map_board.specs.Boards.{Was}
 use Rattle.map_anneal.specs.Sought.{price}
 use Rattle.map_anneal.specs.Searches.{sought_of}
 use Rattle.map_anneal.specs.Weighed.{IsNoLess}
-use Rattle.map_anneal.proofs.TriedMoves.{settled_is, settled_no_less}
+use Rattle.map_anneal.proofs.TriedMoves.{never_kept, settled_is, settled_no_less}
 use Rattle.map_anneal.proofs.tried.Tried.settle_if.Goals as goal
 
 never : (m : Mapping) → ◌≡◌ {A = Option Mapping} None (Some m) → ⊥
@@ -27,6 +30,27 @@ returns-then-not-branch-clause-weighed g c = λ is yes last was plugs kept.
     let none = c.in_ok-plan.ensures.none c.if-not-branch.true in
     absurd (none-some plugs (sym (ap (λ (y : Mapping). plugs_of x.lab.now x.wiring.now y.places) (sym c.plan.ensures.mapping) ∙ none) ∙ kept.given))
 
+pub returns-then-not-branch-2-clause-dear : goal.returns-then-not-branch-2-clause-dear
+returns-then-not-branch-2-clause-dear g c = λ is last was m found.
+    let x = c.args.moves.now.setting.mapper in
+    let places = c.args.self.now.board.mapping.places in
+    let a = c.args.first.0.0 in
+    let b = c.args.second.0.0 in
+    let stays = c.in_ok-may_stay.field-0 in
+    let test = subst (λ (y : Mapping). IsTrue stays ↔ KeepsPlaces x.lab.now x.wiring.now y.places a b) c.plan.ensures.mapping c.in_ok-may_stay.ensures in
+    let all = parts_of_map x.lab.now x.free.now x.wiring.now places m found in
+    absurd (never_kept x.lab.now x.wiring.now places a b stays test c.if-not-branch-2.true c.requires.first c.requires.second all.shared all.typed)
+
+pub returns-then-not-branch-2-clause-weighed : goal.returns-then-not-branch-2-clause-weighed
+returns-then-not-branch-2-clause-weighed g c = λ is yes last was plugs kept.
+    let x = c.args.moves.now.setting.mapper in
+    let places = c.args.self.now.board.mapping.places in
+    let a = c.args.first.0.0 in
+    let b = c.args.second.0.0 in
+    let stays = c.in_ok-may_stay.field-0 in
+    let test = subst (λ (y : Mapping). IsTrue stays ↔ KeepsPlaces x.lab.now x.wiring.now y.places a b) c.plan.ensures.mapping c.in_ok-may_stay.ensures in
+    absurd (never_kept x.lab.now x.wiring.now places a b stays test c.if-not-branch-2.true c.requires.first c.requires.second kept.shared kept.typed)
+
 pub returns-then-from-below-clause-weighed : goal.returns-then-from-below-clause-weighed
 returns-then-from-below-clause-weighed g c = λ is yes last was.
     let x = c.args.moves.now.setting in
@@ -34,7 +58,7 @@ returns-then-from-below-clause-weighed g c = λ is yes last was.
     let old = c.plan.new.self.mapping in
     let new = c.settle.new.self.mapping in
     let before = subst (λ (y : Mapping). Was x y.places y.plugs c.args.first.0.0 c.args.second.0.0 last) (sym c.plan.ensures.mapping) was in
-    let map = settled_is c.in_ok-settle.field-0 (node_map x.mapper.lab.now x.mapper.free.now x.mapper.wiring.now old.places) new c.if-not-branch-2.false (c.in_ok-settle.ensures.map last before) in
+    let map = settled_is c.in_ok-settle.field-0 (node_map x.mapper.lab.now x.mapper.free.now x.mapper.wiring.now old.places) new c.if-not-branch-3.false (c.in_ok-settle.ensures.map last before) in
     let wide = c.from.ensures in
     let cost : ◌≡◌ {A = ℕ} c.cost-cost.result (price s new) = c.cost-cost.ensures in
     let le : c.args.below ≤ c.from.result = c.if-from-below.true in

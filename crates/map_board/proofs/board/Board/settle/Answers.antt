@@ -2,6 +2,7 @@ use Rattle.std.proofs.Common.{◌≡◌, ◌∙◌, List, Some, ap, sym, subst}
 use Rattle.lab_base.specs.declared.ids.IfaceId.{IfaceId}
 use Rattle.lab_model.specs.Shapes.{Place}
 use Rattle.node_maps.specs.NodeMaps.{plugs_of, node_map}
+use Rattle.node_maps.specs.Moved.{KeepsPlaces}
 use Rattle.trunk_sums.specs.Remade.{remade}
 use Rattle.map_board.specs.Boards.{Was}
 use Rattle.map_board.specs.Unmade.{unmade}
@@ -11,6 +12,11 @@ use Rattle.map_board.proofs.board.Board.settle.Goals as goal
 pub make-requires-clause-changes : goal.make-requires-clause-changes
 make-requires-clause-changes c =
     planned_changes c.args.setting.now c.args.self.now.mapping.places c.args.first.0 c.args.second.0 c.args.self.now.changes.items c.requires.setting c.requires.laid.shaped.places c.requires.planned
+
+pub is_kept-requires-clause-stays : goal.is_kept-requires-clause-stays
+is_kept-requires-clause-stays c =
+    let x = c.args.setting.now.mapper in
+    subst (λ (l : List Place). KeepsPlaces x.lab.now x.wiring.now l c.args.first.0 c.args.second.0) (sym c.in_ok-make.ensures.places) c.requires.stays
 
 pub returns-clause-map : goal.returns-clause-map
 returns-clause-map c = λ last was.
@@ -30,4 +36,4 @@ returns-clause-map c = λ last was.
     ap (λ (l : List Place). plugs_of lab w l) places ∙ given ∙ ap Some (sym c.in_ok-make.ensures.plugs) in
     let was_made : Was x made.places (unmade made.plugs c.make.new.self.back.items) a b last =
     subst (λ (l : List IfaceId). Was x made.places l a b last) (sym c.in_ok-make.ensures.back) (subst (λ (l : List Place). Was x l start.plugs a b last) (sym places) was) in
-    ap (λ (l : List Place). node_map lab free w l) (sym places) ∙ c.in_ok-yes.ensures last was_made given_made
+    ap (λ (l : List Place). node_map lab free w l) (sym places) ∙ c.is_kept.ensures last was_made given_made
