@@ -207,11 +207,13 @@ impl Tried {
         let from = node_of(self.board.mapping.places.as_slice(), node);
         let old = place_of(self.board.mapping.places.as_slice(), node);
         let soft = self.board.parts(&setting).soft;
+        let counted = self.board.counted(&setting, node);
         self.board.seat(alloc, &setting, node, place);
         if self.settle_if(alloc, moves, rule, (to, node), (from, node), below)? {
             return Ok(true);
         }
-        self.board.seat_back(alloc, &setting, node, old, soft);
+        self.board
+            .seat_back(alloc, &setting, node, old, soft, counted);
         Ok(false)
     }
 

@@ -11,6 +11,7 @@ use Rattle.std.proofs.lemmas.List.Quantifiers.{position-Some}
 use Rattle.std.proofs.lemmas.Slice.Eq.{bytes_eq-Decides}
 use Rattle.lab_base.specs.Names.{same_name}
 use Rattle.lab_base.proofs.Members.{all_has, Has-get_or}
+use Rattle.virt_topo.specs.declared.limits.TheConstants.{MAX_TYPES}
 use Rattle.virt_topo.specs.declared.wiring.Asks.{Asks}
 use Rattle.virt_topo.specs.declared.wiring.Asks.TheVariants.{Plain, Class as InClass}
 use Rattle.virt_topo.specs.declared.wiring.VirtNode.{VirtNode}
@@ -39,26 +40,26 @@ if_some None each = tt
 if_some (Some x) each = each x refl
 
 -- WHERE THEY ARE COUNTED
-pub few_types : (w : Wiring) (c : ℕ) → IsSound w → c < length w.classes → length (class_at w c).types ≤ 8
+pub few_types : (w : Wiring) (c : ℕ) → IsSound w → c < length w.classes → length (class_at w c).types ≤ MAX_TYPES
 few_types w c sound lt =
     leb-true _ _ (and_parts _ _ (and_parts _ _ (all_has limits_class w.classes (class_at w c) (sound_limits w sound).each_class (Has-get_or w.classes c no_class lt))).1).1
 
 record IsThere (w : Wiring) (c : ℕ) (kind : List ℕ) (n : ℕ) : Type 0 where
   pub place : ℕ
-  pub at : n ≡ c * 8 + place
+  pub at : n ≡ c * MAX_TYPES + place
   pub within : place < length (class_at w c).types
   pub named : get_or (class_at w c).types place [] ≡ kind
 
 there : (w : Wiring) (c n : ℕ) (kind : List ℕ) → class_place w c kind ≡ Some n → IsThere w c kind n
 there w c n kind is = by (type_place w c kind) refl is
   where
-    by : (o : Option ℕ) → type_place w c kind ≡ o → option_map (λ (k : ℕ). c * 8 + k) o ≡ Some n → IsThere w c kind n
+    by : (o : Option ℕ) → type_place w c kind ≡ o → option_map (λ (k : ℕ). c * MAX_TYPES + k) o ≡ Some n → IsThere w c kind n
     by None first is = absurd (cc is)
     by (Some k) first is =
         let found = position-Some (λ (t : List ℕ). same_name t kind) (class_at w c).types k [] first in
         record {
           place = k;
-          at = sym (same_Some (c * 8 + k) n is);
+          at = sym (same_Some (c * MAX_TYPES + k) n is);
           within = found.0;
           named = (bytes_eq-Decides (get_or (class_at w c).types k []) kind).0 found.1;
         }
@@ -99,6 +100,20 @@ asked_there w (InClass c) kind n is = by (nat_lt c (length w.classes)) refl is
     by : (b : Bool) → nat_lt c (length w.classes) ≡ b → cond b (class_place w c kind) None ≡ Some n → IsAskedAt w (InClass c) kind n
     by false out is = absurd (cc is)
     by true within is = record { class = c; asked = refl; within = ltb-true c (length w.classes) within; place = is }
+
+-- there is room for all classes
+pub class_within : (w : Wiring) (c n : ℕ) (kind : List ℕ) → IsSound w → c < length w.classes → class_place w c kind ≡ Some n → n < length w.classes * MAX_TYPES
+class_within w c n kind sound lt is =
+    let few = few_types w c sound lt in
+    let x = there w c n kind is in
+    let at = x.at in
+    let within = x.within in
+    omega (arith, few, lt, at, within)
+
+pub asked_within : (w : Wiring) (asks : Asks) (kind : List ℕ) (n : ℕ) → IsSound w → asked_place w asks kind ≡ Some n → n < length w.classes * MAX_TYPES
+asked_within w asks kind n sound is =
+    let x = asked_there w asks kind n is in
+    class_within w x.class n kind sound x.within x.place
 
 -- a virtual node is counted where the members of its class that have its type are
 pub counted_at : (w : Wiring) (d n : ℕ) (kind : List ℕ) (asks : Asks) (type : List ℕ) → IsSound w → d < length w.classes → class_place w d kind ≡ Some n

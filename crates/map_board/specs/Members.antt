@@ -6,7 +6,8 @@ use Rattle.virt_topo.specs.declared.wiring.Asks.{Asks}
 use Rattle.virt_topo.specs.declared.wiring.Asks.TheVariants.{Plain, Class as InClass}
 use Rattle.virt_topo.specs.declared.wiring.Wiring.{Wiring}
 use Rattle.virt_topo.specs.declared.mapping.Mapping.{Mapping}
-use Rattle.lab_model.specs.Rules.{class_at}
+use Rattle.virt_topo.specs.Wirings.{virt_at}
+use Rattle.lab_model.specs.Rules.{class_at, place_at}
 use Rattle.cost_rule.specs.Cost.{types_of}
 use Rattle.map_board.specs.declared.members.Members.{Members}
 
@@ -32,7 +33,9 @@ abbrev pub one_at : Option ℕ → ℕ → ℕ
 one_at None n = 0
 one_at (Some k) n = if k == n then 1 else 0
 
--- by class and type that it lists, how many members of the class have the type
+-- by class and type that it lists, how many members of the class have the type; by virtual node where it is counted, if it is
 pub record AreMembers (w : Wiring) (m : Mapping) (x : Members) : Type 0 where
   pub room : length x.counts.items ≡ length w.classes * MAX_TYPES
   pub each : (c n : ℕ) (kind : List ℕ) → c < length w.classes → class_place w c kind ≡ Some n → slice_index_or x.counts.items n 0 ≡ members_at w m c kind
+  pub one_each : length x.own.items ≡ length w.nodes
+  pub own : (v : ℕ) → v < length w.nodes → slice_index_or x.own.items v None ≡ asked_place w (virt_at w v).asks (place_at m v).1

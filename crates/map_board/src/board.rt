@@ -1,8 +1,11 @@
 // The board.
 ghost use Rattle.std.specs.Prelude.{◌≡◌, ◌↔◌, true, false, ◌<◌, [], List, Some, None, length, slice_index_or, if◌then◌else◌, Contains, IfOk, OnOk, IfSome, IsSome, IsTrue};
+ghost use Rattle.virt_topo.specs.Wirings.{virt_at};
 ghost use Rattle.lab_model.specs.Shapes.{Place as PlaceSeen, IsShaped};
+ghost use Rattle.lab_model.specs.Rules.{place_at};
 ghost use Rattle.node_maps.specs.NodeMaps.{candidates, IsChoice, node_map, plugs_of};
 ghost use Rattle.node_maps.specs.Moved.{KeepsPlaces};
+ghost use Rattle.map_board.specs.Members.{asked_place};
 ghost use Rattle.map_board.specs.Tables.{IsSetting};
 ghost use Rattle.map_board.specs.Boards.{IsLaid, IsBoard, IsPlanned, Was};
 
@@ -180,7 +183,17 @@ impl Board {
         );
     }
 
-    /// A virtual node goes to another of its candidates, with which that much is soft, as is known; the plugs stay.
+    /// Where a virtual node is counted by class and type, if it is.
+    pub fn counted(&self, setting: &Setting, virt: usize) -> Option<usize>
+        requires setting { IsSetting setting.now }
+        requires laid { IsLaid setting.now self.now }
+        requires virt { virt < length setting.now.mapper.wiring.now.nodes }
+        ensures { result ≡ asked_place setting.now.mapper.wiring.now (virt_at setting.now.mapper.wiring.now virt).asks (place_at self.now.mapping virt).1 }
+    {
+        self.seats.members.counted(virt)
+    }
+
+    /// A virtual node goes to another of its candidates; the plugs stay. What is soft then, and where it is counted then, is known.
     pub fn seat_back(
         &mut self,
         alloc: Global,
@@ -188,6 +201,7 @@ impl Board {
         virt: usize,
         place: Place,
         soft: u64,
+        counted: Option<usize>,
     )
         requires setting { IsSetting setting.now }
         requires laid { IsLaid setting.now self.old }
@@ -195,6 +209,7 @@ impl Board {
         requires among { Contains (slice_index_or (candidates setting.now.mapper.lab.now setting.now.mapper.free.now setting.now.mapper.wiring.now) virt [])
             place }
         requires soft { soft ≡ soft_in setting.now.mapper.lab.now setting.now.mapper.wiring.now (placed_at self.old.mapping virt place) }
+        requires counted { counted ≡ asked_place setting.now.mapper.wiring.now (virt_at setting.now.mapper.wiring.now virt).asks place.1 }
         ensures laid { IsLaid setting.now self.new }
         ensures mapping { self.new.mapping ≡ placed_at self.old.mapping virt place }
         ensures back { self.new.back.items ≡ self.old.back.items }
@@ -208,6 +223,7 @@ impl Board {
             virt,
             place,
             soft,
+            counted,
         );
     }
 

@@ -1,14 +1,15 @@
 // The counts kept by place of a mapping.
 ghost use Rattle.std.specs.Prelude.{◌≡◌, ◌<◌, ◌≤◌, ◌+◌, ◌-◌, ◌==◌, ℕ, length, slice_index_or, slice_set, if◌then◌else◌, IfOk, All, true};
 ghost use Rattle.virt_topo.specs.Soundness.{IsSound};
+ghost use Rattle.virt_topo.specs.Wirings.{virt_at};
 ghost use Rattle.cost_rule.specs.Cost.{nodes_in_use, soft as soft_in};
 ghost use Rattle.lab_model.specs.Shapes.{IsShaped, node_at, has_name};
 ghost use Rattle.lab_model.specs.Rules.{no_place};
 ghost use Rattle.map_board.specs.Softs.{AreSofts};
-ghost use Rattle.map_board.specs.Members.{AreMembers};
+ghost use Rattle.map_board.specs.Members.{AreMembers, asked_place};
 ghost use Rattle.map_board.specs.Seated.{IsSeated, guests_at, placed_at};
 
-use crate::members::Members;
+use crate::members::{Members, virt_place};
 use crate::softs::Softs;
 use cost_rule::{MAX_SOFT, parts_of};
 use lab_base::{Items, Memory, Name, NodeId};
@@ -122,7 +123,7 @@ impl Seats {
         self.guests[node.0 as usize] += 1;
     }
 
-    /// A virtual node leaves its node for another place. What is soft isn't told anew.
+    /// A virtual node leaves its node for another place; `into` is where it is counted then. What is soft isn't told anew.
     fn go(
         &mut self,
         alloc: Global,
@@ -131,12 +132,14 @@ impl Seats {
         mapping: &mut Mapping,
         virt: usize,
         place: Place,
+        into: Option<usize>,
     )
         requires sound { IsSound wiring.now }
         requires shaped { IsShaped lab.now wiring.now mapping.old }
         requires seated { IsSeated lab.now wiring.now mapping.old self.old }
         requires virt { virt < length wiring.now.nodes }
         requires node { place.0.0 < length lab.now.nodes }
+        requires into { into ≡ asked_place wiring.now (virt_at wiring.now virt).asks place.1 }
         ensures mapping { mapping.new ≡ placed_at mapping.old virt place }
         ensures one_each { length self.new.guests.items ≡ length lab.now.nodes }
         ensures guests { (n : ℕ) → n < length lab.now.nodes → slice_index_or self.new.guests.items n 0 ≡ guests_at (placed_at mapping.old virt place).places n }
@@ -149,7 +152,7 @@ impl Seats {
         let from = node_of(mapping, virt);
         self.leave(from);
         self.join(place.0);
-        self.members.go(wiring, mapping, virt, &place);
+        self.members.go(wiring, mapping, virt, &place, into);
         set_place(alloc, mapping, virt, place);
     }
 
@@ -181,13 +184,17 @@ impl Seats {
         let kind = kind_of(mapping, virt);
         let before = softs.at(lab, wiring, virt, from);
         let after = softs.at(lab, wiring, virt, place.0);
-        let gained = self.members.type_soft(wiring, mapping, virt, &place.1);
-        self.go(alloc, lab, wiring, mapping, virt, place);
-        let lost = self.members.type_soft(wiring, mapping, virt, &kind);
+        let out_of = self.members.counted(virt);
+        let into = virt_place(wiring, virt, &place.1);
+        let gained = self
+            .members
+            .type_soft(wiring, mapping, virt, &place.1, into);
+        self.go(alloc, lab, wiring, mapping, virt, place, into);
+        let lost = self.members.type_soft(wiring, mapping, virt, &kind, out_of);
         self.soft = changed(self.soft, (after, gained), (before, lost));
     }
 
-    /// A virtual node goes to a place with which that much is soft, as is known.
+    /// A virtual node goes to a place. What is soft then, and where it is counted then, is known.
     pub fn seat_back(
         &mut self,
         alloc: Global,
@@ -197,6 +204,7 @@ impl Seats {
         virt: usize,
         place: Place,
         soft: u64,
+        counted: Option<usize>,
     )
         requires sound { IsSound wiring.now }
         requires shaped { IsShaped lab.now wiring.now mapping.old }
@@ -205,11 +213,12 @@ impl Seats {
         requires node { place.0.0 < length lab.now.nodes }
         requires typed { has_name (node_at lab.now place.0).types place.1 ≡ true }
         requires soft { soft ≡ soft_in lab.now wiring.now (placed_at mapping.old virt place) }
+        requires counted { counted ≡ asked_place wiring.now (virt_at wiring.now virt).asks place.1 }
         ensures mapping { mapping.new ≡ placed_at mapping.old virt place }
         ensures shaped { IsShaped lab.now wiring.now mapping.new }
         ensures seated { IsSeated lab.now wiring.now mapping.new self.new }
     {
-        self.go(alloc, lab, wiring, mapping, virt, place);
+        self.go(alloc, lab, wiring, mapping, virt, place, counted);
         self.soft = soft;
     }
 }

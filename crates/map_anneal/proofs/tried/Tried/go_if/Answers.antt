@@ -1,12 +1,14 @@
-use Rattle.std.proofs.Common.{◌≡◌, ◌<◌, ◌∙◌, List, [], length, get_or, Some, Contains, sym, ap, subst, arith, get_or-set_same}
+use Rattle.std.proofs.Common.{◌≡◌, ◌<◌, ◌∙◌, ℕ, List, [], length, get_or, Some, Contains, sym, ap, subst, arith, get_or-set_same}
 use Rattle.std.proofs.Math.ListN.{set}
 use Rattle.virt_topo.specs.declared.mapping.Mapping.{Mapping}
+use Rattle.virt_topo.specs.Wirings.{virt_at}
 use Rattle.lab_model.specs.Shapes.{Place}
 use Rattle.lab_model.specs.Rules.{no_place}
 use Rattle.cost_rule.specs.declared.parts.Parts.{Parts}
 use Rattle.cost_rule.specs.Cost.{soft}
 use Rattle.node_maps.specs.NodeMaps.{node_map}
 use Rattle.map_board.proofs.Choices.{choice_moved}
+use Rattle.map_board.specs.Members.{asked_place}
 use Rattle.map_board.specs.Seated.{placed_at}
 use Rattle.map_anneal.specs.Sought.{choices, price}
 use Rattle.map_anneal.specs.Searches.{sought_of}
@@ -25,6 +27,15 @@ settle_if-requires-clause-first g c =
     let within : c.args.node < length places = omega (arith, c.requires.within, choice.one_each) in
     subst (λ (p : Place). p.0.0 < length x.lab.now.nodes) (get_or-set_same places c.args.node c.args.place no_place within)
     (place_within x.lab.now x.free.now x.wiring.now (set places c.args.node c.args.place) c.args.node changed c.requires.within)
+
+pub settle_if-requires-clause-second : goal.settle_if-requires-clause-second
+settle_if-requires-clause-second g c =
+    let x = c.args.moves.now.setting.mapper in
+    let v = c.args.node in
+    let laid = c.requires.tried.board.laid in
+    let lt : v < length c.args.self.now.board.mapping.places = omega (arith, c.requires.within, laid.choice.one_each) in
+    let from = c.node_of-from.ensures ∙ ap (λ (l : List Place). (get_or l v no_place).0.0) c.as_slice.ensures in
+    subst (λ (n : ℕ). n < length x.lab.now.nodes) (sym from) (laid.shaped.in_nodes v no_place lt)
 
 pub returns-then-branch-clause-map : goal.returns-then-branch-clause-map
 returns-then-branch-clause-map g c = λ is.
@@ -74,6 +85,14 @@ seat_back-requires-clause-soft g c =
     (c.in_ok-settle_if.ensures.places ∙ ap (λ (y : Mapping). y.places) c.seat.ensures.mapping)
     (c.in_ok-settle_if.ensures.plugs c.if-branch.false ∙ ap (λ (y : Mapping). y.plugs) c.seat.ensures.mapping) in
     ap (λ (y : Parts). y.soft) c.parts-soft.ensures ∙ sym (ap (soft x.lab.now x.wiring.now) ((λ j. placed_at (left j) v (old j)) ∙ moved_back m v c.args.place))
+
+pub seat_back-requires-clause-counted : goal.seat_back-requires-clause-counted
+seat_back-requires-clause-counted g c =
+    let w = c.args.moves.now.setting.mapper.wiring.now in
+    let m = c.args.self.now.board.mapping in
+    let v = c.args.node in
+    let old : c.place_of-old.result ≡ get_or m.places v no_place = c.place_of-old.ensures ∙ ap (λ (l : List Place). get_or l v no_place) c.as_slice-2.ensures in
+    c.counted-counted.ensures ∙ ap (λ (p : Place). asked_place w (virt_at w v).asks p.1) (sym old)
 
 pub returns-clause-same : goal.returns-clause-same
 returns-clause-same g c = λ is.

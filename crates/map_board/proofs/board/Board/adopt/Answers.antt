@@ -13,6 +13,7 @@ returns-clause-laid c =
     let w = x.mapper.wiring.now in
     let b = c.args.self.now in
     let laid = c.requires.laid in
+    let members = laid.seated.members in
     let made : c.from_vec.result ≡ c.make.new.plugs.items = c.from_vec.ensures in
     let plugs : c.from_vec.result ≡ remade b.mapping.plugs b.changes.items =
     made ∙ c.make.ensures.plugs ∙ (λ j. remade ((c.into_vec-plugs.ensures ∙ c.replace.ensures.value) j) (c.deref.ensures.value j)) in
@@ -23,7 +24,7 @@ returns-clause-laid c =
         one_each = laid.seated.one_each;
         guests = laid.seated.guests;
         nodes = laid.seated.nodes;
-        members = record { room = laid.seated.members.room; each = laid.seated.members.each };
+        members = record { room = members.room; each = members.each; one_each = members.one_each; own = members.own };
         soft = laid.seated.soft;
       };
       summed = subst (λ (l : List IfaceId). IsSummed lab w l c.make.new.self) (sym made) c.make.ensures.summed;

@@ -1,8 +1,11 @@
-use Rattle.std.proofs.Common.{◌≡◌, ◌<◌, ◌∙◌, Option, ℕ, length, ap, sym, arith}
+use Rattle.std.proofs.Common.{◌≡◌, ◌<◌, ◌∙◌, inl, inr, List, Option, None, ℕ, length, get_or, ap, sym, arith, get_or-set_other, get_or-set_same}
+use Rattle.std.proofs.Math.ListN.{set}
+use Rattle.std.proofs.lemmas.Bool.{cases_eq}
+use Rattle.std.proofs.lemmas.List.{length-set}
 use Rattle.virt_topo.specs.Wirings.{virt_at}
 use Rattle.virt_topo.proofs.CableLaws.{sound_limits}
 use Rattle.lab_model.specs.Rules.{place_at}
-use Rattle.map_board.specs.Members.{one_at}
+use Rattle.map_board.specs.Members.{asked_place, one_at}
 use Rattle.map_board.proofs.MemberLaws.{counts, if_some, asked_there, counted_at, members_few, members_step, members_end}
 use Rattle.map_board.proofs.members.Members.of.Goals as goal
 
@@ -27,6 +30,9 @@ loop-virt-preserved c =
     let kind_of = (place_at m v).1 in
     let lt : v < length w.nodes = omega (arith, c.loop-virt-test.true, c.len-virt-end.ensures) in
     let all = c.requires.placed in
+    let before = c.loop-virt.members.own.items in
+    let one_each = c.loop-virt.invariant.one_each in
+    let own = c.join.ensures.own in
     record {
       room = c.join.ensures.room ∙ c.loop-virt.invariant.room;
       each = λ d n kind d_lt is.
@@ -35,6 +41,13 @@ loop-virt-preserved c =
           let step = members_step w m d v kind lt (omega (arith, lt, all)) in
           let so_far = c.loop-virt.invariant.each d n kind d_lt is in
           omega (arith, joined, at, step, so_far);
+      one_each = ap length own ∙ length-set before v c.own_place.result ∙ one_each;
+      own = λ k k_lt. ap (λ (l : List (Option ℕ)). get_or l k None) own ∙ (elim (cases_eq k v) [
+        | inl is ↦
+            (λ j. get_or (set before v c.own_place.result) (is j) None) ∙ get_or-set_same before v c.own_place.result None (omega (arith, lt, one_each)) ∙ c.own_place.ensures.is
+            ∙ (λ j. asked_place w (virt_at w (sym is j)).asks (place_at m (sym is j)).1)
+        | inr apart ↦ get_or-set_other before v k c.own_place.result None apart ∙ c.loop-virt.invariant.own k (omega (arith, k_lt, apart))
+      ]);
     }
 
 pub returns : goal.returns
@@ -50,4 +63,6 @@ returns c =
           let so_far = c.loop-virt.invariant.each d n kind d_lt is in
           let none = members_end w m d v kind (omega (arith, end, nodes)) in
           omega (arith, so_far, none);
+      one_each = c.loop-virt.invariant.one_each;
+      own = λ k k_lt. c.loop-virt.invariant.own k (omega (arith, end, nodes, k_lt));
     }
