@@ -21,7 +21,7 @@ fn first_places(alloc: Global, listed: &Candidates) -> Result<Option<Items<Place
 {
     let mut places = Items::new(alloc);
     for virt in 0..listed.len() {
-        if listed.of(virt).is_empty() {
+        if listed.count(virt) == 0 {
             return Ok(None);
         }
         places.push(candidate(listed, virt, 0))?;

@@ -20,6 +20,9 @@ use phys_lab::{Free, Lab};
 use std::alloc::Global;
 use virt_topo::{Mapping, Wiring};
 
+/// The most choices of a candidate for each virtual node that are all tried.
+pub const MAX_CHOICES: u64 = 65_536;
+
 /// Whether a cost is below that of the best map, if there is one.
 fn is_below(cost: u64, best: &Option<Priced>) -> bool
     ensures { result ≡ is_below cost best.now }
@@ -100,8 +103,9 @@ fn explore(
         return Ok(after);
     }
     let mut kept = best;
-    for place in moves.candidates.of(begun) {
-        chosen.put(alloc, &moves.setting, begun, *place);
+    for number in 0..moves.candidates.count(begun) {
+        let place = moves.candidates.at(begun, number);
+        chosen.put(alloc, &moves.setting, begun, place);
         kept = explore(alloc, moves, rule, begun + 1, chosen, kept)?;
     }
     Ok(kept)
@@ -141,7 +145,7 @@ pub fn best_of_all(
 ) -> Result<Option<(Mapping, u64)>, Memory>
     requires free { IsFreeOf lab.now free.now }
     requires sound { IsSound wiring.now }
-    requires few { count (choices (sought lab.now free.now wiring.now rule.now.number)) ≤ 65536 }
+    requires few { count (choices (sought lab.now free.now wiring.now rule.now.number)) ≤ MAX_CHOICES }
     ensures { IfOk result (λ best. IsCheapestOf (sought lab.now free.now wiring.now rule.now.number)
         (node_maps (sought lab.now free.now wiring.now rule.now.number)) best) }
 {

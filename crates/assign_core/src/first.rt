@@ -148,9 +148,10 @@ fn first_fitting(
         (slice_index_or placing.now.candidates.now (length places.old.items) [])) }
 {
     let next = places.len();
-    for place in placing.candidates.of(next) {
-        if fits(alloc, placing, places, *place, given)? {
-            return Ok(Some(*place));
+    let listed = placing.candidates;
+    for number in 0..listed.count(next) {
+        if fits(alloc, placing, places, listed.at(next, number), given)? {
+            return Ok(Some(listed.at(next, number)));
         }
     }
     Ok(None)

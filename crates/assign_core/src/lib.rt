@@ -6,7 +6,7 @@ mod exact;
 mod first;
 mod whole;
 
-pub use exact::best_of_all;
+pub use exact::{MAX_CHOICES, best_of_all};
 pub use first::first_fit;
 pub use node_maps::{Candidates, candidates};
 pub use whole::{Solved, are_few, solve};

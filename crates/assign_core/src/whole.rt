@@ -1,5 +1,5 @@
 // The whole search.
-ghost use Rattle.std.specs.Prelude.{◌≡◌, ◌≤◌, ◌*◌, ◌↔◌, min, IsTrue, IfOk};
+ghost use Rattle.std.specs.Prelude.{◌≡◌, ◌≤◌, ◌+◌, ◌*◌, ◌↔◌, min, IsTrue, IfOk};
 ghost use Rattle.virt_topo.specs.Soundness.{IsSound};
 ghost use Rattle.lab_model.specs.Feasible.{IsFeasible};
 ghost use Rattle.lab_model.specs.Shapes.{IsFreeOf, IsShaped};
@@ -7,7 +7,7 @@ ghost use Rattle.map_anneal.specs.Sought.{sought};
 ghost use Rattle.map_anneal.specs.Searches.{IsPrepared};
 ghost use Rattle.assign_core.specs.Exact.{count, IfFound, IsAllowed};
 
-use crate::exact::best_by;
+use crate::exact::{MAX_CHOICES, best_by};
 use crate::first::{Placing, fit_by};
 use cost_rule::StepRule;
 use lab_base::Memory;
@@ -30,22 +30,22 @@ pub enum Solved {
     GaveUp,
 }
 
-/// A number of candidates times one more; above 65,536 it is 65,537.
+/// A number of choices times a number of candidates, at most one more than `MAX_CHOICES`.
 fn capped(total: u64, more: usize) -> u64
-    ensures { result ≡ min (total * more) 65537 }
+    ensures { result ≡ min (total * more) (MAX_CHOICES + 1) }
 {
-    (u128::from(total) * more as u128).min(65_537) as u64
+    (u128::from(total) * more as u128).min(u128::from(MAX_CHOICES + 1)) as u64
 }
 
-/// Whether there are at most 65,536 candidates.
+/// Whether there are at most `MAX_CHOICES` choices of candidates.
 pub fn are_few(listed: &Candidates) -> bool
-    ensures { IsTrue result ↔ (count listed.now ≤ 65536) }
+    ensures { IsTrue result ↔ (count listed.now ≤ MAX_CHOICES) }
 {
     let mut total = 1;
     for node in 0..listed.len() {
-        total = capped(total, listed.of(node).len());
+        total = capped(total, listed.count(node));
     }
-    total <= 65_536
+    total <= MAX_CHOICES
 }
 
 /// The whole search, by what is prepared.
@@ -92,7 +92,7 @@ fn solve_by(
     Ok(Solved::Local(lowest, cost))
 }
 
-/// The whole search. With at most 65,536 candidates it answers the cheapest feasible node map, or None.
+/// The whole search. With at most `MAX_CHOICES` choices of candidates it answers the cheapest feasible node map, or None.
 /// With more it answers a locally best map that costs at most every map of the walk from FirstFit by the seed; or GaveUp where FirstFit isn't
 /// feasible.
 pub fn solve(

@@ -27,7 +27,8 @@ IsNoLess s below places = (plugs : List IfaceId) → KeepsButRoom s.lab s.free s
 -- by candidate of virtual node v whether a move there is known; noted so, it is no cheaper than the map, though F6 is not asked
 pub record IsRow (s : Sought) (m : Mapping) (v : ℕ) (row : List Bool) : Type 0 where
   pub one_each : length row ≡ length (candidates_at s v)
-  pub known : (c : ℕ) → c < length row → slice_index_or row c false ≡ true → IsNoLess s (price s m) (slice_set m.places v (slice_index_or (candidates_at s v) c no_place))
+  pub known : (c : ℕ) → c < length row → slice_index_or row c false ≡ true
+      → IsNoLess s (price s m) (slice_set m.places v (slice_index_or (candidates_at s v) c no_place))
 
 -- a row for each virtual node
 pub record AreRows (s : Sought) (m : Mapping) (rows : List (List Bool)) : Type 0 where

@@ -43,11 +43,11 @@ fn cheaper_move_of(
     ensures none { IfOk result (λ yes. yes ≡ false → NoMove (sought_of moves.now rule.now.number) at.old.board.mapping node) }
     ensures row { OnOk result (IsRow (sought_of moves.now rule.now.number) at.old.board.mapping node row.new) }
 {
-    let listed = moves.candidates.of(node);
+    let listed = moves.candidates;
     let below = u128::from(at.cost);
-    for number in 0..listed.len() {
+    for number in 0..listed.count(node) {
         if !row.is_known(number) {
-            if at.move_if(alloc, moves, rule, node, listed[number], below)? {
+            if at.move_if(alloc, moves, rule, node, listed.at(node, number), below)? {
                 return Ok(true);
             }
             row.note(number, at.weighed);

@@ -178,7 +178,7 @@ fn fresh_rows(
 {
     let mut rows = Vec::new(alloc);
     for virt in 0..moves.candidates.len() {
-        let row = Notes::of(alloc, moves.candidates.of(virt).len())?;
+        let row = Notes::of(alloc, moves.candidates.count(virt))?;
         rows.push(row)?;
     }
     Ok(rows)

@@ -35,8 +35,7 @@ pub fn candidate(listed: &Candidates, node: usize, word: u32) -> Place
     ensures named { result ≡ slice_index_or (slice_index_or listed.now node []) (word % length (slice_index_or listed.now node [])) no_place }
     ensures among { Contains (slice_index_or listed.now node []) result }
 {
-    let own = listed.of(node);
-    own[word as usize % own.len()]
+    listed.at(node, word as usize % listed.count(node))
 }
 
 /// The node of a virtual node.

@@ -1,8 +1,8 @@
 -- One list of candidates for each kind of virtual node.
-use Rattle.std.proofs.Common.{◌≡◌, ◌<◌, ◌+◌, ◌∙◌, ◌++◌, ◌∷◌, ◌&&◌, inl, inr, ◌⊎◌, ℕ, List, [], length, map, filter, get_or, false, refl, ap, sym, subst, arith}
+use Rattle.std.proofs.Common.{◌≡◌, ◌<◌, ◌+◌, ◌∙◌, ◌++◌, ◌∷◌, ◌&&◌, inl, inr, ◌⊎◌, ℕ, zero, suc, List, [], length, map, filter, get_or, All, false, refl, ap, sym, subst, arith}
 use Rattle.std.proofs.lemmas.Bool.{cases_lt}
 use Rattle.std.proofs.Math.Seq.{get_or-append_seam}
-use Rattle.std.proofs.lemmas.List.{length-append, length-map, get_or-map, get_or_append_left, ext_get_or}
+use Rattle.std.proofs.lemmas.List.{length-append, length-map, get_or-map, get_or_append_left, get_or_default, ext_get_or}
 use Rattle.std.proofs.lemmas.List.Elements.{All-append, All-cons}
 use Rattle.phys_lab.specs.declared.free.Free.{Free}
 use Rattle.phys_lab.specs.Labs.{Lab}
@@ -10,9 +10,9 @@ use Rattle.virt_topo.specs.declared.wiring.VirtNode.{VirtNode}
 use Rattle.virt_topo.specs.declared.wiring.Wiring.{Wiring}
 use Rattle.virt_topo.specs.Wirings.{virt_at, no_virt}
 use Rattle.lab_model.specs.Shapes.{Place, node_at}
-use Rattle.lab_model.specs.Rules.{is_asked, are_met, is_fixed_at}
+use Rattle.lab_model.specs.Rules.{is_asked, are_met, is_fixed_at, no_place}
 use Rattle.node_maps.specs.NodeMaps.{candidates_of, candidates, lab_places}
-use Rattle.node_maps.specs.Kinds.{AreOfOneKind, AreKinds, by_kind}
+use Rattle.node_maps.specs.Kinds.{AreOfOneKind, AreKinds, AreNumbers, by_kind, listed, place_of, places_of}
 
 -- the candidates hang on what is asked, desired and fixed alone
 candidates_alike : (lab : Lab) (free : Free) (w : Wiring) (u v : VirtNode) → AreOfOneKind u v → candidates_of lab free w u ≡ candidates_of lab free w v
@@ -38,6 +38,38 @@ candidates_by_kind lab free w ones kinds are =
     ∙ sym (candidates_alike lab free w (virt_at w (get_or ones (get_or kinds v 0) 0)) (virt_at w v) (are.same v here))
     ∙ sym (get_or-map (λ (k : ℕ). candidates_of lab free w (virt_at w k)) ones (get_or kinds v 0) 0 [] (are.within v here))
     ∙ sym (get_or-map at kinds v 0 [] (omega (arith, here, count)))))
+
+-- what is made of a list of these, or of none
+map_or : {X Y : Type 0} (f : X → Y) (lists : List (List X)) (k : ℕ) → get_or (map (map f) lists) k [] ≡ map f (get_or lists k [])
+map_or f [] k = refl
+map_or f (x ∷ lists) zero = refl
+map_or f (x ∷ lists) (suc k) = map_or f lists k
+
+-- what is made of each kind's list is made of its virtual nodes' lists
+pub by_kind_map : {X Y : Type 0} (f : X → Y) (lists : List (List X)) (kinds : List ℕ) → by_kind (map (map f) lists) kinds ≡ map (map f) (by_kind lists kinds)
+by_kind_map f lists [] = refl
+by_kind_map f lists (k ∷ kinds) = λ i. map_or f lists k i ∷ by_kind_map f lists kinds i
+
+-- what holds of each in a list and of the default holds of the one of any number
+all_or : {X : Type 0} (P : X → Type 0) (xs : List X) (d : X) (k : ℕ) → All P xs → P d → P (get_or xs k d)
+all_or P [] d k are none = none
+all_or P (x ∷ xs) d zero are none = are 0 d (omega arith)
+all_or P (x ∷ xs) d (suc k) are none = all_or P xs d k (λ j e lt. are (suc j) e (omega (arith, lt))) none
+
+-- a place that is read by a number of its kind's list is the candidate
+pub place_named : (places : List Place) (lists : List (List ℕ)) (kinds : List ℕ) (v n : ℕ) (p : Place) → AreNumbers places lists → v < length (by_kind (listed places lists) kinds)
+    → n < length (get_or (by_kind (listed places lists) kinds) v []) → p ≡ get_or places (get_or (get_or lists (get_or kinds v 0) []) n 0) p
+    → p ≡ get_or (get_or (by_kind (listed places lists) kinds) v []) n no_place
+place_named places lists kinds v n p are v_lt n_lt is =
+    let kind = get_or kinds v 0 in
+    let own = get_or lists kind [] in
+    let within = all_or (All (λ (k : ℕ). k < length places)) lists [] kind are (λ k d lt. absurd (omega (arith, lt))) in
+    let of : ℕ → List Place = λ (k : ℕ). get_or (listed places lists) k [] in
+    let here : v < length kinds = omega (arith, v_lt, length-map kinds of) in
+    let at : get_or (by_kind (listed places lists) kinds) v [] ≡ places_of places own = get_or-map of kinds v 0 [] here ∙ map_or (place_of places) lists kind in
+    let lt : n < length own = omega (arith, n_lt, ap length at, length-map own (place_of places)) in
+    is ∙ get_or_default places (get_or own n 0) p no_place (within n 0 lt)
+    ∙ sym (get_or-map (place_of places) own n 0 no_place lt) ∙ ap (λ (l : List Place). get_or l n no_place) (sym at)
 
 -- one virtual node more, of a kind that is there
 pub kinds_known : (nodes : List VirtNode) (n : ℕ) (ones kinds : List ℕ) (k : ℕ) → AreKinds nodes n ones kinds → k < length ones

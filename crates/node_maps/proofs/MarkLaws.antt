@@ -1,16 +1,22 @@
--- Marks of candidates, by kind of virtual node.
-use Rattle.std.proofs.Common.{◌≡◌, ◌∷◌, [], ℕ, zero, suc, Bool, List, map, get_or, refl}
+-- Marks of candidates by their numbers.
+use Rattle.std.proofs.Common.{◌≡◌, ◌<◌, ◌∷◌, [], ℕ, suc, Bool, true, List, All, length, map, get_or, refl, arith}
+use Rattle.std.proofs.lemmas.List.{get_or-map}
 use Rattle.lab_model.specs.Shapes.{Place}
-use Rattle.node_maps.specs.Kinds.{by_kind}
-use Rattle.node_maps.specs.Marked.{marks_of}
+use Rattle.lab_model.specs.Rules.{no_place}
+use Rattle.node_maps.specs.Kinds.{listed, places_of, AreNumbers}
+use Rattle.node_maps.specs.Marked.{mark_of, marks_of}
 
--- the marks of a list of these, or of none
-marks_at : (nodes : List Bool) (lists : List (List Place)) (k : ℕ) → get_or (map (marks_of nodes) lists) k [] ≡ marks_of nodes (get_or lists k [])
-marks_at nodes [] k = refl
-marks_at nodes (x ∷ lists) zero = refl
-marks_at nodes (x ∷ lists) (suc k) = marks_at nodes lists k
+-- numbers of places have the marks of the places
+marks_of_numbers : (nodes : List Bool) (places : List Place) (numbers : List ℕ) → All (λ k. k < length places) numbers
+    → map (mark_of (marks_of nodes places)) numbers ≡ marks_of nodes (places_of places numbers)
+marks_of_numbers nodes places [] are = refl
+marks_of_numbers nodes places (k ∷ numbers) are = λ i.
+    get_or-map (λ (p : Place). get_or nodes p.0.0 true) places k no_place true (are 0 0 (omega arith)) i
+    ∷ marks_of_numbers nodes places numbers (λ j d lt. are (suc j) d (omega (arith, lt))) i
 
--- the marks of each kind are those of its virtual nodes
-pub marks_by_kind : (nodes : List Bool) (lists : List (List Place)) (kinds : List ℕ) → by_kind (map (marks_of nodes) lists) kinds ≡ map (marks_of nodes) (by_kind lists kinds)
-marks_by_kind nodes lists [] = refl
-marks_by_kind nodes lists (k ∷ kinds) = λ i. marks_at nodes lists k i ∷ marks_by_kind nodes lists kinds i
+pub marks_of_lists : (nodes : List Bool) (places : List Place) (lists : List (List ℕ)) → AreNumbers places lists
+    → map (map (mark_of (marks_of nodes places))) lists ≡ map (marks_of nodes) (listed places lists)
+marks_of_lists nodes places [] are = refl
+marks_of_lists nodes places (numbers ∷ lists) are = λ i.
+    marks_of_numbers nodes places numbers (are 0 [] (omega arith)) i
+    ∷ marks_of_lists nodes places lists (λ j d lt. are (suc j) d (omega (arith, lt))) i

@@ -1,6 +1,7 @@
 // Candidates on nodes that are marked.
-ghost use Rattle.std.specs.Prelude.{◌≡◌, ◌<◌, [], true, length, map, slice_index_or, IfOk};
-ghost use Rattle.node_maps.specs.Marked.{marks_of};
+ghost use Rattle.std.specs.Prelude.{◌≡◌, ◌<◌, [], true, length, map, slice_index_or, All, IfOk};
+ghost use Rattle.node_maps.specs.Kinds.{listed, AreNumbers};
+ghost use Rattle.node_maps.specs.Marked.{mark_of, marks_of};
 
 use crate::lists::{Candidates, Place};
 use lab_base::{Items, Memory, NodeId};
@@ -46,20 +47,48 @@ fn marks_in(alloc: Global, nodes: &[bool], listed: &[Place]) -> Result<Items<boo
     Ok(marks)
 }
 
-/// By list and place whether the place's node is marked.
+/// By number its mark.
+fn marks_at(alloc: Global, marks: &[bool], numbers: &[u16]) -> Result<Items<bool>, Memory>
+    requires { All (λ k. k < length marks.now) numbers.now }
+    ensures { IfOk result (λ own. own ≡ map (mark_of marks.now) numbers.now) }
+{
+    let mut own = Items::new(alloc);
+    for number in numbers {
+        own.push(marks[*number as usize])?;
+    }
+    Ok(own)
+}
+
+/// By list and number its mark.
 fn all_marks(
     alloc: Global,
-    nodes: &[bool],
-    lists: &[Items<Place>],
+    marks: &[bool],
+    lists: &[Items<u16>],
 ) -> Result<Vec<Items<bool>>, Memory>
-    ensures { IfOk result (λ marks. marks.items ≡ map (marks_of nodes.now) lists.now) }
+    requires { All (All (λ k. k < length marks.now)) lists.now }
+    ensures { IfOk result (λ all. all.items ≡ map (map (mark_of marks.now)) lists.now) }
 {
-    let mut marks = Vec::new(alloc);
-    for listed in lists {
-        let own = marks_in(alloc, nodes, listed.as_slice())?;
-        marks.push(own)?;
+    let mut all = Vec::new(alloc);
+    for numbers in lists {
+        let own = marks_at(alloc, marks, numbers.as_slice())?;
+        all.push(own)?;
     }
-    Ok(marks)
+    Ok(all)
+}
+
+/// By list and number whether the place of the number is on a marked node.
+fn listed_marks(
+    alloc: Global,
+    nodes: &[bool],
+    places: &[Place],
+    lists: &[Items<u16>],
+) -> Result<Vec<Items<bool>>, Memory>
+    requires { AreNumbers places.now lists.now }
+    ensures { IfOk result (λ all. all.items ≡ map (marks_of nodes.now) (listed places.now lists.now)) }
+{
+    let marks = marks_in(alloc, nodes, places)?;
+    let all = all_marks(alloc, marks.as_slice(), lists)?;
+    Ok(all)
 }
 
 fn copy_kinds(kinds: &Vec<usize>) -> Result<Vec<usize>, Memory>
@@ -74,7 +103,7 @@ impl Candidates {
     pub fn marked(&self, alloc: Global, nodes: &[bool]) -> Result<Marked, Memory>
         ensures { IfOk result (λ marked. marked ≡ map (marks_of nodes.now) self.now) }
     {
-        let lists = all_marks(alloc, nodes, &self.lists)?;
+        let lists = listed_marks(alloc, nodes, &self.places, &self.lists)?;
         let kinds = copy_kinds(&self.kinds)?;
         Ok(Marked { lists, kinds })
     }

@@ -1,15 +1,16 @@
 // The candidates of a virtual node.
-ghost use Rattle.std.specs.Prelude.{◌≡◌, ◌<◌, ◌++◌, map, filter, length, All, IfOk, OnOk, false, slice_index_or};
+ghost use Rattle.std.specs.Prelude.{◌≡◌, ◌<◌, ◌≤◌, ◌*◌, ◌++◌, map, length, All, IfOk, OnOk, false, slice_index_or};
 ghost use Rattle.lab_model.specs.Shapes.{IsFreeOf};
 ghost use Rattle.virt_topo.specs.Wirings.{virt_at};
 ghost use Rattle.node_maps.specs.NodeMaps.{lab_places, is_candidate, candidates as candidates_in};
+ghost use Rattle.node_maps.specs.Kinds.{candidates_among, listed, places_of as numbered, AreNumbers};
 
 use crate::kinds::Kinds;
 use crate::lists::{Candidates, Place};
 use feas::{is_fixed_at, suits};
 use lab_base::{Items, Memory, NodeId};
 use lab_model::node_at;
-use phys_lab::{Free, Lab, Node};
+use phys_lab::{Free, Lab, MAX_LAB_NODES, MAX_NODE_TYPES, Node};
 use std::alloc::Global;
 use virt_topo::{VirtNode, Wiring};
 
@@ -24,7 +25,8 @@ fn push_places(listed: &mut Vec<Place>, id: NodeId, node: &Node) -> Result<(), M
 
 /// The places of a lab, by node, then by type.
 fn places_of(alloc: Global, lab: &Lab) -> Result<Vec<Place>, Memory>
-    ensures { IfOk result (λ listed. listed.items ≡ lab_places lab.now) }
+    ensures places { IfOk result (λ listed. listed.items ≡ lab_places lab.now) }
+    ensures few { IfOk result (λ listed. length listed.items ≤ MAX_LAB_NODES * MAX_NODE_TYPES) }
 {
     // for the prover: it tells what every lab keeps
     let _kept = lab.range();
@@ -55,6 +57,7 @@ fn is_candidate(lab: &Lab, free: &Free, wiring: &Wiring, virt: &VirtNode, place:
         && is_fixed_at(virt.fixed, node.name)
 }
 
+/// The candidates of a virtual node, by their numbers among these places.
 fn candidates_of(
     alloc: Global,
     lab: &Lab,
@@ -62,18 +65,20 @@ fn candidates_of(
     wiring: &Wiring,
     virt: &VirtNode,
     places: &[Place],
-) -> Result<Items<Place>, Memory>
+) -> Result<Items<u16>, Memory>
     requires free { IsFreeOf lab.now free.now }
     requires places { All (λ p. p.0.0 < length lab.now.nodes) places.now }
-    ensures { IfOk result (λ listed. listed ≡ filter (λ p. is_candidate lab.now free.now wiring.now virt.now p) places.now) }
+    requires few { length places.now ≤ MAX_LAB_NODES * MAX_NODE_TYPES }
+    ensures numbers { IfOk result (λ numbers. All (λ k. k < length places.now) numbers) }
+    ensures places { IfOk result (λ numbers. numbered places.now numbers ≡ candidates_among lab.now free.now wiring.now places.now virt.now) }
 {
-    let mut listed = Items::new(alloc);
-    for place in places {
-        if is_candidate(lab, free, wiring, virt, place) {
-            listed.push(*place)?;
+    let mut numbers = Items::new(alloc);
+    for number in 0..places.len() {
+        if is_candidate(lab, free, wiring, virt, &places[number]) {
+            numbers.push(number as u16)?;
         }
     }
-    Ok(listed)
+    Ok(numbers)
 }
 
 /// The candidates of the virtual node of a number.
@@ -84,11 +89,14 @@ fn candidates_at(
     wiring: &Wiring,
     virt: usize,
     places: &[Place],
-) -> Result<Items<Place>, Memory>
+) -> Result<Items<u16>, Memory>
     requires free { IsFreeOf lab.now free.now }
     requires virt { virt < length wiring.now.nodes }
     requires places { All (λ p. p.0.0 < length lab.now.nodes) places.now }
-    ensures { IfOk result (λ listed. listed ≡ filter (λ p. is_candidate lab.now free.now wiring.now (virt_at wiring.now virt) p) places.now) }
+    requires few { length places.now ≤ MAX_LAB_NODES * MAX_NODE_TYPES }
+    ensures numbers { IfOk result (λ numbers. All (λ k. k < length places.now) numbers) }
+    ensures places { IfOk result (λ numbers. numbered places.now numbers
+        ≡ candidates_among lab.now free.now wiring.now places.now (virt_at wiring.now virt)) }
 {
     let asked = &wiring.nodes.as_slice()[virt];
     candidates_of(alloc, lab, free, wiring, asked, places)
@@ -102,11 +110,14 @@ fn lists_of(
     wiring: &Wiring,
     ones: &[usize],
     places: &[Place],
-) -> Result<Vec<Items<Place>>, Memory>
+) -> Result<Vec<Items<u16>>, Memory>
     requires free { IsFreeOf lab.now free.now }
     requires ones { All (λ v. v < length wiring.now.nodes) ones.now }
     requires places { All (λ p. p.0.0 < length lab.now.nodes) places.now }
-    ensures { IfOk result (λ all. all.items ≡ map (λ v. filter (λ p. is_candidate lab.now free.now wiring.now (virt_at wiring.now v) p) places.now) ones.now) }
+    requires few { length places.now ≤ MAX_LAB_NODES * MAX_NODE_TYPES }
+    ensures numbers { IfOk result (λ lists. AreNumbers places.now lists.items) }
+    ensures places { IfOk result (λ lists. listed places.now lists.items
+        ≡ map (λ v. candidates_among lab.now free.now wiring.now places.now (virt_at wiring.now v)) ones.now) }
 {
     let mut lists = Vec::new(alloc);
     for one in ones {
@@ -128,5 +139,5 @@ pub fn candidates(
     let places = places_of(alloc, lab)?;
     let kinds = Kinds::of(alloc, wiring.nodes.as_slice())?;
     let lists = lists_of(alloc, lab, free, wiring, &kinds.ones, &places)?;
-    Ok(Candidates::of_kinds(lists, kinds.kinds))
+    Ok(Candidates::of_kinds(places, lists, kinds.kinds))
 }

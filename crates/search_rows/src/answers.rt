@@ -9,7 +9,7 @@ ghost use Rattle.assign_core.specs.Exact.{count};
 use crate::asked::Asked;
 use crate::problem::Problem;
 use crate::walk::start_of;
-use assign_core::{Solved, are_few, best_of_all, candidates, solve};
+use assign_core::{MAX_CHOICES, Solved, are_few, best_of_all, candidates, solve};
 use cost_rule::StepRule;
 use lab_base::{Kind, Memory, Text};
 use map_anneal::{anneal, descend};
@@ -107,7 +107,8 @@ fn push_solve(
 /// Whether the candidates of a problem are few.
 fn has_few(alloc: Global, problem: &Problem<'_>) -> Result<bool, Memory>
     requires { IsFreeOf problem.now.lab.now problem.now.free.now }
-    ensures { IfOk result (λ few. IsTrue few → count (candidates_in problem.now.lab.now problem.now.free.now problem.now.wiring.now) ≤ 65536) }
+    ensures { IfOk result (λ few. IsTrue few → count (candidates_in problem.now.lab.now problem.now.free.now problem.now.wiring.now)
+        ≤ MAX_CHOICES) }
 {
     let listed = candidates(alloc, problem.lab, problem.free, problem.wiring)?;
     let few = are_few(&listed);

@@ -1,5 +1,4 @@
 use Rattle.std.proofs.Common.{◌≡◌, ◌<◌, ◌∙◌, ◌+◌, ◌++◌, ◌∷◌, [], ℕ, List, length, get_or, Contains, refl, sym, ap, subst, length-append, arith}
-use Rattle.std.proofs.lemmas.Bool.{eqb-true}
 use Rattle.lab_model.specs.Shapes.{Place}
 use Rattle.assign_core.specs.Bests.{IsPartial}
 use Rattle.assign_core.proofs.Choosing.{partial_more, partial_whole}
@@ -32,9 +31,9 @@ returns-clause-choice c =
     let known = c.loop-virt.invariant in
     partial_whole cs c.loop-virt.places known.partial (omega (arith, c.loop-virt-test.false, c.loop-virt.auto.virt-end, c.len-virt-end.ensures, known.count))
 
-pub returns-then-is_empty-clause-none : goal.returns-then-is_empty-clause-none
-returns-then-is_empty-clause-none c = λ is. record {
+pub returns-then-count-eq0-clause-none : goal.returns-then-count-eq0-clause-none
+returns-then-count-eq0-clause-none c = λ is. record {
   virt = c.loop-virt.virt;
   within = omega (arith, c.loop-virt-test.true, c.len-virt-end.ensures);
-  none = sym c.of.ensures ∙ none_of c.of.result.now (eqb-true (length c.of.result.now) 0 (sym c.is_empty.ensures ∙ c.if-is_empty.true));
+  none = none_of (get_or c.args.listed.now c.loop-virt.virt []) (omega (arith, c.count.ensures, c.if-count-eq0.true));
 }

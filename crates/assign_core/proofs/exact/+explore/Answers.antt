@@ -1,7 +1,8 @@
 use Rattle.std.proofs.Common.{◌≡◌, ◌<◌, ◌≤◌, ◌∙◌, ◌+◌, ◌++◌, ◌∷◌, [], List, length, take, drop, get_or, Contains, refl, sym, ap, subst, append_assoc, arith}
 use Rattle.std.specs.List.{cons_option}
-use Rattle.std.proofs.lemmas.List.{take_all, drop_all, append-nil, take-set, take_more_set}
+use Rattle.std.proofs.lemmas.List.{take_all, drop_all, append-nil, get_or_default, take-set, take_more_set}
 use Rattle.lab_model.specs.Shapes.{Place}
+use Rattle.lab_model.specs.Rules.{no_place}
 use Rattle.node_maps.proofs.MapLaws.{candidates_count}
 use Rattle.map_anneal.specs.Sought.{choices, mapped}
 use Rattle.map_anneal.specs.Searches.{sought_of}
@@ -21,8 +22,8 @@ returns-then-begun-len-clause-best g t c = λ maps h.
     ap (λ p. found s (p ∷ []) (drop n (choices s))) all ∙ found_whole s places (drop n (choices s)) (drop_all n (choices s) whole) in
     subst (λ xs. IsBest s (maps ++ xs) c.in_ok-after.after) (sym same) (c.in_ok-after.ensures.best maps h)
 
-pub loop-place-init : goal.loop-place-init
-loop-place-init g t c =
+pub loop-number-init : goal.loop-number-init
+loop-number-init g t c =
     let s = sought_of c.args.moves.now c.args.rule.now.number in
     let rest = drop (c.args.begun + 1) (choices s) in
     record {
@@ -42,31 +43,31 @@ put-requires-clause-virt g t c =
 
 pub put-requires-clause-among : goal.put-requires-clause-among
 put-requires-clause-among g t c =
-    let s = sought_of c.args.moves.now c.args.rule.now.number in
-    let x = c.place-item.result in
-    let listed = c.of-place-items.ensures ∙ ap (λ xs. get_or xs c.args.begun []) c.requires.moves.listed in
-    let In : List Place → Type 0 = λ xs. Contains xs x in
-    subst In listed (c.loop-place.place-index, c.loop-place-test.true, sym c.place-item.is)
+    let listed = ap (λ xs. get_or xs c.args.begun []) c.requires.moves.listed in
+    subst (λ (xs : List Place). Contains xs c.at-place.result) listed c.at-place.ensures.among
 
 pub explore-requires : goal.explore-requires
 explore-requires g t c = (
   omega (arith, c.decreases, c.requires.begun, c.if-begun-len.false, c.len.ensures, ap length c.requires.moves.listed),
-  (c.requires.moves, (c.put.ensures.chosen, (omega (arith, c.requires.begun, c.if-begun-len.false, c.len.ensures, ap length c.requires.moves.listed), c.loop-place.invariant.priced))),
+  (c.requires.moves, (c.put.ensures.chosen, (omega (arith, c.requires.begun, c.if-begun-len.false, c.len.ensures, ap length c.requires.moves.listed), c.loop-number.invariant.priced))),
 )
 
-pub loop-place-preserved : goal.loop-place-preserved
-loop-place-preserved g t c =
+pub loop-number-preserved : goal.loop-number-preserved
+loop-number-preserved g t c =
     let s = sought_of c.args.moves.now c.args.rule.now.number in
     let n = c.args.begun in
     let start = c.args.chosen.now.board.mapping.places in
-    let before = c.loop-place.chosen.board.mapping.places in
-    let items = c.of-place-items.result.now in
-    let k = c.loop-place.place-index in
-    let x = c.place-item.result in
+    let before = c.loop-number.chosen.board.mapping.places in
+    let items = get_or (choices s) n [] in
+    let k = c.loop-number.number in
+    let x = c.at-place.result in
+    let listed = ap (λ xs. get_or xs n []) c.requires.moves.listed in
+    let k_lt : k < length items = omega (arith, c.loop-number-test.true, c.count-number-end.ensures, ap length listed) in
+    let is : x ≡ get_or items k x = c.at-place.ensures.named ∙ ap (λ (l : List Place). get_or l k no_place) listed ∙ get_or_default items k no_place x k_lt in
     let rest = drop (n + 1) (choices s) in
     let put = c.put.new.self.board.mapping.places in
     let last = c.explore.new.chosen.board.mapping.places in
-    let known = c.loop-place.invariant in
+    let known = c.loop-number.invariant in
     let count = known.chosen.laid.choice.one_each in
     let lt : n < length before = omega (arith, c.requires.begun, c.if-begun-len.false, c.len.ensures, ap length c.requires.moves.listed, count) in
     let more : take (n + 1) put ≡ take n start ++ x ∷ [] =
@@ -80,7 +81,7 @@ loop-place-preserved g t c =
           let here : IsBest s (so_far ++ found s ((take n start ++ x ∷ []) ∷ []) rest) c.in_ok-kept.kept =
           subst (λ m. IsBest s (so_far ++ found s (m ∷ []) rest) c.in_ok-kept.kept) more (c.in_ok-kept.ensures.best so_far (known.best maps h)) in
           let same = append_assoc maps (found s (with_each (take n start) (take k items)) rest) (found s ((take n start ++ x ∷ []) ∷ []) rest)
-          ∙ ap (λ xs. maps ++ xs) (sym (found_one_more s (take n start) items k x rest c.loop-place-test.true c.place-item.is)) in
+          ∙ ap (λ xs. maps ++ xs) (sym (found_one_more s (take n start) items k x rest k_lt is)) in
           subst (λ xs. IsBest s xs c.in_ok-kept.kept) same here;
     }
 
@@ -89,10 +90,10 @@ returns-clause-best g t c = λ maps h.
     let s = sought_of c.args.moves.now c.args.rule.now.number in
     let n = c.args.begun in
     let places = take n c.args.chosen.now.board.mapping.places in
-    let items = c.of-place-items.result.now in
+    let items = get_or (choices s) n [] in
     let rest = drop (n + 1) (choices s) in
-    let all : take c.loop-place.place-index items ≡ items = take_all c.loop-place.place-index items (omega arith) in
-    let listed = c.of-place-items.ensures ∙ ap (λ xs. get_or xs n []) c.requires.moves.listed in
+    let listed = ap (λ xs. get_or xs n []) c.requires.moves.listed in
+    let all : take c.loop-number.number items ≡ items = take_all c.loop-number.number items (omega (arith, c.loop-number-test.false, c.count-number-end.ensures, ap length listed)) in
     let lt : n < length (choices s) = omega (arith, c.requires.begun, c.if-begun-len.false, c.len.ensures, ap length c.requires.moves.listed) in
-    let end = ap (λ xs. maps ++ found s (with_each places xs) rest) (all ∙ listed) ∙ ap (λ xs. maps ++ xs) (sym (found_here s places (choices s) n lt)) in
-    subst (λ xs. IsBest s xs c.loop-place.kept) end (c.loop-place.invariant.best maps h)
+    let end = ap (λ xs. maps ++ found s (with_each places xs) rest) all ∙ ap (λ xs. maps ++ xs) (sym (found_here s places (choices s) n lt)) in
+    subst (λ xs. IsBest s xs c.loop-number.kept) end (c.loop-number.invariant.best maps h)

@@ -1,7 +1,9 @@
-use Rattle.std.proofs.Common.{◌≡◌, ◌<◌, ◌∙◌, ℕ, [], List, length, get_or, All, sym, ap, subst, arith}
+use Rattle.std.proofs.Common.{◌≡◌, ◌<◌, ◌∙◌, ℕ, [], List, length, get_or, Contains, sym, ap, subst, arith}
 use Rattle.std.specs.Prelude.{is_some}
-use Rattle.std.specs.List.{find}
+use Rattle.std.proofs.lemmas.List.{get_or_default}
+use Rattle.std.proofs.lemmas.List.Elements.{All-contains}
 use Rattle.lab_model.specs.Shapes.{Place}
+use Rattle.lab_model.specs.Rules.{no_place}
 use Rattle.node_maps.specs.NodeMaps.{candidates, plugs_of}
 use Rattle.node_maps.proofs.MapLaws.{candidates_count}
 use Rattle.assign_core.specs.Exact.{fits_next}
@@ -11,12 +13,12 @@ use Rattle.assign_core.proofs.first.first_fitting.Goals as goal
 pub fits-requires-clause-served : goal.fits-requires-clause-served
 fits-requires-clause-served c =
     let x = c.args.placing.now.mapper in
-    ap (λ (ps : List Place). is_some (plugs_of x.lab.now x.wiring.now ps)) c.loop-place.invariant.same ∙ c.requires.served
+    ap (λ (ps : List Place). is_some (plugs_of x.lab.now x.wiring.now ps)) c.loop-number.invariant.same ∙ c.requires.served
 
 pub fits-requires-clause-more : goal.fits-requires-clause-more
 fits-requires-clause-more c =
     let x = c.args.placing.now.mapper in
-    omega (arith, ap length c.loop-place.invariant.same, c.requires.more, ap length c.requires.placing.listed, candidates_count x.lab.now x.free.now x.wiring.now)
+    omega (arith, ap length c.loop-number.invariant.same, c.requires.more, ap length c.requires.placing.listed, candidates_count x.lab.now x.free.now x.wiring.now)
 
 pub fits-requires-clause-node : goal.fits-requires-clause-node
 fits-requires-clause-node c =
@@ -24,35 +26,43 @@ fits-requires-clause-node c =
     let n = length c.args.places.now.items in
     let On : Place → Type 0 = λ p. p.0.0 < length x.lab.now.nodes in
     let lt : n < length (candidates x.lab.now x.free.now x.wiring.now) = omega (arith, c.requires.more, ap length c.requires.placing.listed) in
-    let all = candidates_within x.lab.now x.free.now x.wiring.now n lt in
     let next : c.len-next.result ≡ n = omega (arith, c.len-next.ensures, c.args.places.now.ok.0) in
-    let listed = c.of-place-items.ensures ∙ ap (λ (k : ℕ). get_or c.args.placing.now.candidates.now k []) next ∙ ap (λ xs. get_or xs n []) c.requires.placing.listed in
-    let here : All On c.of-place-items.result.now = subst (λ xs. All On xs) (sym listed) all in
-    subst On (sym c.place-item.is) (here c.loop-place.place-index c.place-item.result c.loop-place-test.true)
+    let listed = ap (λ (k : ℕ). get_or c.args.placing.now.candidates.now k []) next ∙ ap (λ xs. get_or xs n []) c.requires.placing.listed in
+    All-contains On (get_or (candidates x.lab.now x.free.now x.wiring.now) n []) c.at.result (candidates_within x.lab.now x.free.now x.wiring.now n lt)
+    (subst (λ xs. Contains xs c.at.result) listed c.at.ensures.among)
 
 pub returns-then-branch-clause-same : goal.returns-then-branch-clause-same
-returns-then-branch-clause-same c = c.in_ok-fits.ensures.same ∙ c.loop-place.invariant.same
+returns-then-branch-clause-same c = c.in_ok-fits.ensures.same ∙ c.loop-number.invariant.same
 
 pub returns-then-branch-clause-first : goal.returns-then-branch-clause-first
 returns-then-branch-clause-first c =
     let x = c.args.placing.now.mapper in
     let places = c.args.places.now.items in
-    let p = c.place-item.result in
+    let own = get_or c.args.placing.now.candidates.now (length places) [] in
+    let k = c.loop-number.number in
+    let p = c.at-then-branch.result in
     let next : c.len-next.result ≡ length places = omega (arith, c.len-next.ensures, c.args.places.now.ok.0) in
-    let yes = ap (λ (ps : List Place). fits_next x.lab.now x.wiring.now ps p) (sym c.loop-place.invariant.same) ∙ sym c.in_ok-fits.ensures.fits ∙ c.if-branch.true in
-    let here = find_here (λ q. fits_next x.lab.now x.wiring.now places q) c.of-place-items.result.now c.loop-place.place-index p c.loop-place-test.true c.place-item.is yes in
-    sym here ∙ c.loop-place.invariant.first
-    ∙ ap (find (λ q. fits_next x.lab.now x.wiring.now places q)) (c.of-place-items.ensures ∙ ap (λ (k : ℕ). get_or c.args.placing.now.candidates.now k []) next)
+    let listed = ap (λ (j : ℕ). get_or c.args.placing.now.candidates.now j []) next in
+    let lt : k < length own = omega (arith, c.loop-number-test.true, c.count-number-end.ensures, ap length listed) in
+    let is : p ≡ get_or own k p = c.at-then-branch.ensures.named ∙ ap (λ (l : List Place). get_or l k no_place) listed ∙ get_or_default own k no_place p lt in
+    let again : p ≡ c.at.result = c.at-then-branch.ensures.named ∙ sym c.at.ensures.named in
+    let yes = (λ j. fits_next x.lab.now x.wiring.now (sym c.loop-number.invariant.same j) (again j)) ∙ sym c.in_ok-fits.ensures.fits ∙ c.if-branch.true in
+    sym (find_here (λ q. fits_next x.lab.now x.wiring.now places q) own k p lt is yes) ∙ c.loop-number.invariant.first
 
-pub loop-place-preserved : goal.loop-place-preserved
-loop-place-preserved c =
+pub loop-number-preserved : goal.loop-number-preserved
+loop-number-preserved c =
     let x = c.args.placing.now.mapper in
     let places = c.args.places.now.items in
-    let p = c.place-item.result in
-    let no = ap (λ (ps : List Place). fits_next x.lab.now x.wiring.now ps p) (sym c.loop-place.invariant.same) ∙ sym c.in_ok-fits.ensures.fits ∙ c.if-branch.false in
+    let own = get_or c.args.placing.now.candidates.now (length places) [] in
+    let k = c.loop-number.number in
+    let p = c.at.result in
+    let next : c.len-next.result ≡ length places = omega (arith, c.len-next.ensures, c.args.places.now.ok.0) in
+    let listed = ap (λ (j : ℕ). get_or c.args.placing.now.candidates.now j []) next in
+    let lt : k < length own = omega (arith, c.loop-number-test.true, c.count-number-end.ensures, ap length listed) in
+    let is : p ≡ get_or own k p = c.at.ensures.named ∙ ap (λ (l : List Place). get_or l k no_place) listed ∙ get_or_default own k no_place p lt in
+    let no = ap (λ (ps : List Place). fits_next x.lab.now x.wiring.now ps p) (sym c.loop-number.invariant.same) ∙ sym c.in_ok-fits.ensures.fits ∙ c.if-branch.false in
     record {
-      same = c.in_ok-fits.ensures.same ∙ c.loop-place.invariant.same;
+      same = c.in_ok-fits.ensures.same ∙ c.loop-number.invariant.same;
       idle = c.in_ok-fits.ensures.idle;
-      first = sym (find_later (λ q. fits_next x.lab.now x.wiring.now places q) c.of-place-items.result.now c.loop-place.place-index p c.loop-place-test.true c.place-item.is no)
-          ∙ c.loop-place.invariant.first;
+      first = sym (find_later (λ q. fits_next x.lab.now x.wiring.now places q) own k p lt is no) ∙ c.loop-number.invariant.first;
     }

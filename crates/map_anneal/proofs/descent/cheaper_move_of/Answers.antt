@@ -1,5 +1,4 @@
 use Rattle.std.proofs.Common.{◌≡◌, ◌<◌, ◌∙◌, ℕ, List, [], length, get_or, ap, sym, subst, arith}
-use Rattle.std.proofs.lemmas.List.{get_or_read}
 use Rattle.lab_model.specs.Shapes.{Place}
 use Rattle.lab_model.specs.Rules.{no_place}
 use Rattle.map_anneal.specs.declared.tried.Tried.{Tried}
@@ -19,18 +18,17 @@ loop-number-preserved g c =
     let v = c.args.node in
     let n = c.loop-number.number in
     let was = c.loop-number.invariant in
-    let listed : c.of-listed.result.now ≡ candidates_at s v = c.of-listed.ensures ∙ ap (λ (l : List (List Place)). get_or l v []) c.requires.moves.listed in
-    let lt : n < length c.of-listed.result.now = omega (arith, c.loop-number-test.true) in
+    let listed : get_or c.args.moves.now.candidates.now v [] ≡ candidates_at s v = ap (λ (l : List (List Place)). get_or l v []) c.requires.moves.listed in
     let all = ap (λ (l : List Place). length l) listed in
     let each = was.row.one_each in
-    let row_lt : n < length c.loop-number.row = omega (arith, lt, all, each) in
+    let row_lt : n < length c.loop-number.row = omega (arith, c.loop-number-test.true, c.count-number-end.ensures, all, each) in
     let Done : ℕ → Type 0 = λ k. IsNoCheaper s m (moved s m v (candidate_at s v k)) in
     let below : ◌≡◌ {A = ℕ} c.from-below.result (price s m) = c.from-below.ensures ∙ c.requires.at.cost in
     elim c.if-not-is_known.branch [
       | then-not-is_known+in_ok-move_if+else-branch w ↦
           let done = w.in_ok-move_if.ensures in
-          let p = w.index-listed-number.result in
-          let place : p ≡ candidate_at s v n = get_or_read c.of-listed.result.now n p lt w.index-listed-number.is no_place ∙ ap (λ (l : List Place). get_or l n no_place) listed in
+          let p = w.at.result in
+          let place : p ≡ candidate_at s v n = w.at.ensures.named ∙ ap (λ (l : List Place). get_or l n no_place) listed in
           let last = c.loop-number.at.board.mapping in
           record {
             tried = subst (λ (x : Tried). IsTried c.args.moves.now c.args.rule.now.number x) (sym w.at-is) done.tried;
@@ -53,6 +51,5 @@ pub returns-clause-none : goal.returns-clause-none
 returns-clause-none g c = λ is.
     let s = sought_of c.args.moves.now c.args.rule.now.number in
     let v = c.args.node in
-    let listed : c.of-listed.result.now ≡ candidates_at s v = c.of-listed.ensures ∙ ap (λ (l : List (List Place)). get_or l v []) c.requires.moves.listed in
-    let all = ap (λ (l : List Place). length l) listed in
-    no_move s c.args.at.now.board.mapping v (λ k less. c.loop-number.invariant.none k (omega (arith, less, all, c.loop-number-test.false)))
+    let all = ap (λ (l : List (List Place)). length (get_or l v [])) c.requires.moves.listed in
+    no_move s c.args.at.now.board.mapping v (λ k less. c.loop-number.invariant.none k (omega (arith, less, all, c.loop-number-test.false, c.count-number-end.ensures)))

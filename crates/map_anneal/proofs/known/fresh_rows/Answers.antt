@@ -24,9 +24,8 @@ loop-virt-preserved g c =
     let was = c.loop-virt.invariant in
     let rows = c.loop-virt.rows.items in
     let new = c.in_ok-row.row in
-    let listed : c.of.result.now ≡ candidates_at s v = c.of.ensures ∙ ap (λ (l : List (List Place)). get_or l v []) c.requires.listed in
-    let count : ◌≡◌ {A = ℕ} (length c.of.result.now) (length (candidates_at s v)) = ap (λ (l : List Place). length l) listed in
-    let is : IsRow s m v new = subst (IsRow s m v) (sym c.in_ok-row.ensures) (fresh_row s m v (length c.of.result.now) count) in
+    let count : ◌≡◌ {A = ℕ} c.count.result (length (candidates_at s v)) = c.count.ensures ∙ ap (λ (l : List (List Place)). length (get_or l v [])) c.requires.listed in
+    let is : IsRow s m v new = subst (IsRow s m v) (sym c.in_ok-row.ensures) (fresh_row s m v c.count.result count) in
     let pushed = c.in_ok-push.ensures.items in
     record {
       count = ap (λ (l : List (List Bool)). length l) pushed ∙ length_push rows new ∙ ap (λ (n : ℕ). n + 1) was.count;

@@ -1,6 +1,9 @@
-use Rattle.std.proofs.Common.{◌≡◌, filter, take}
-use Rattle.node_maps.specs.NodeMaps.{is_candidate}
+use Rattle.std.proofs.Common.{◌≡◌, ◌<◌, All, length, take}
+use Rattle.node_maps.specs.Kinds.{candidates_among, places_of}
 use Rattle.node_maps.proofs.suited.candidates_of.Given as goal
 
-abbrev pub invariant-loop-place : goal.invariant-loop-place
-invariant-loop-place l = l.listed ≡ filter (λ p. is_candidate l.lab l.free l.wiring l.virt p) (take l.place-index l.places)
+abbrev pub invariant-loop-number : goal.invariant-loop-number
+invariant-loop-number l = record {
+  numbers : All (λ k. k < length l.places) l.numbers;
+  places : places_of l.places l.numbers ≡ candidates_among l.lab l.free l.wiring (take l.number l.places) l.virt;
+}
