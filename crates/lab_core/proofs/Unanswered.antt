@@ -5,7 +5,7 @@ use Rattle.std.proofs.lemmas.Bool.{cases_lt}
 use Rattle.std.proofs.lemmas.List.{append-nil, take-append-le, take_all}
 use Rattle.lab_base.specs.Counts.{Rose}
 use Rattle.lab_base.proofs.Tests.{never_both, some_all}
-use Rattle.plant.specs.Disks.{Disk, disk, ArePossible}
+use Rattle.plant.specs.Disks.{Disk, ArePossible}
 use Rattle.plant.specs.Events.{Event, Unread}
 use Rattle.plant.specs.Seen.{Seen}
 use Rattle.plant.specs.Told.{Told, with_steps}
