@@ -12,8 +12,8 @@ use Rattle.lab_model.specs.Cabled.{Cabled, CabledPhase, SameNode}
 use Rattle.lab_model.specs.Claims.{Places}
 use Rattle.lab_model.specs.Courses.{node_names}
 use Rattle.lab_model.specs.Wants.{rows_of, node_row_of}
-use Rattle.lab_audit.specs.declared.report.Line.{Line}
-use Rattle.lab_audit.specs.declared.report.Line.TheVariants.{Lacks, Strange, Node}
+use Rattle.script_text.specs.declared.reply.AuditLine.{AuditLine}
+use Rattle.script_text.specs.declared.reply.AuditLine.TheVariants.{Lacks, Strange, Node}
 use Rattle.lab_audit.specs.Diff.{standing_in, Tells, AreLines, AreLinesOf, Differs, Held, Free, AreDiffering, IsDiff, IsKnown}
 
 -- what stands of an experiment that is in
@@ -28,18 +28,18 @@ stands lab w e (In mapping tags) m c is = subst (λ (o : Option Mapped). Of o) i
 stands lab w e (Moving old new) m c is = absurd (cc is)
 
 module _ (lab : Lab) (es : List Experiment) (w : World) (c : Cabled lab es w) where
-  no_line : (switch : List ℕ) (line : Line) → Tells lab es w switch line → ⊥
+  no_line : (switch : List ℕ) (line : AuditLine) → Tells lab es w switch line → ⊥
   no_line switch (Lacks named port vlan) t =
       let is = (stands lab w t.1.by t.1.by.phase t.1.mapped (c.phases t.1.by t.1.listed) t.1.stands).0 _ t.1.link t.1.wants in
       cc (is, t.2)
   no_line switch (Strange named port vlan) t = t.2 (c.wanted _ t.1)
   no_line switch (Node node) t = t
 
-  no_lines : (switch : List ℕ) (lines : List Line) → AreLinesOf lab es w switch lines → lines ≡ []
+  no_lines : (switch : List ℕ) (lines : List AuditLine) → AreLinesOf lab es w switch lines → lines ≡ []
   no_lines switch [] l = refl
   no_lines switch (line ∷ lines) l = absurd (no_line switch line ((l.exact line).0 (inl refl)))
 
-  no_lines_at_all : (switches : List (List ℕ)) (lines : List Line) → AreLines lab es w switches lines → lines ≡ []
+  no_lines_at_all : (switches : List (List ℕ)) (lines : List AuditLine) → AreLines lab es w switches lines → lines ≡ []
   no_lines_at_all [] lines l = l
   no_lines_at_all (switch ∷ switches) lines l =
       let own = no_lines switch l.0 l.2 in
@@ -50,12 +50,12 @@ module _ (lab : Lab) (es : List Experiment) (w : World) (c : Cabled lab es w) wh
   as_wanted name (Held e m listed is placed other) = other ((stands lab w e e.phase m (c.phases e listed) is).1 name placed)
   as_wanted name (Free none other) = other (c.free name none)
 
-  no_nodes : (names : List (List ℕ)) (lines : List Line) → AreDiffering lab es w names lines → lines ≡ []
+  no_nodes : (names : List (List ℕ)) (lines : List AuditLine) → AreDiffering lab es w names lines → lines ≡ []
   no_nodes [] lines d = d
   no_nodes (name ∷ names) lines (inl d) = absurd (as_wanted name d.0)
   no_nodes (name ∷ names) lines (inr d) = no_nodes names lines d.1
 
-  pub nothing : (report : List Line) → IsDiff lab es w report → report ≡ []
+  pub nothing : (report : List AuditLine) → IsDiff lab es w report → report ≡ []
   nothing report d =
       let lines = no_lines_at_all lab.switches d.lines d.switches in
       let nodes = no_nodes (node_names lab) d.nodes d.differing in

@@ -12,8 +12,8 @@ use Rattle.phys_lab.specs.Labs.{Lab}
 use Rattle.virt_topo.specs.declared.experiment.Experiment.{Experiment}
 use Rattle.plant.specs.Worlds.{Row, World}
 use Rattle.plant_tables.specs.Readings.{IsEntry, entry_of}
-use Rattle.lab_audit.specs.declared.report.Line.{Line}
-use Rattle.lab_audit.specs.declared.report.Line.TheVariants.{Lacks, Strange, Node}
+use Rattle.script_text.specs.declared.reply.AuditLine.{AuditLine}
+use Rattle.script_text.specs.declared.reply.AuditLine.TheVariants.{Lacks, Strange, Node}
 use Rattle.lab_audit.specs.declared.wanted.Wanted.{Wanted}
 use Rattle.lab_audit.specs.Diff.{Tells, AreLinesOf, entry_in}
 use Rattle.lab_audit.specs.Lines.{AreAllWanted, is_entry, is_found, is_wanted_at, lacking_line, strange_line, unordered, in_order}
@@ -85,7 +85,7 @@ module _ (lab : Lab) (es : List Experiment) (w : World) (switch : List ℕ) (fou
       let f = Has-map entry_of found (port, vlan) ((exact (port, vlan)).1 is) in
       any_has (is_entry port vlan) found f.0 f.1 (and_from _ _ (eq-eqb f.0.0 port (ap (λ (e : ℕ × ℕ). e.0) f.2)) (eq-eqb f.0.1.0 vlan (ap (λ (e : ℕ × ℕ). e.1) f.2)))
 
-  lacking : (x : Wanted) (line : Line) → Has wanted x → lacking_line switch found x ≡ Some line → Tells lab es w switch line
+  lacking : (x : Wanted) (line : AuditLine) → Has wanted x → lacking_line switch found x ≡ Some line → Tells lab es w switch line
   lacking x line has is =
       let c = chosen (x.stands && (bytes_eq x.row.switch switch && not (is_found x.row found))) (Lacks switch x.row.port (record { 0 = x.row.vlan })) line is in
       let p = and_parts x.stands (bytes_eq x.row.switch switch && not (is_found x.row found)) c.0 in
@@ -94,14 +94,14 @@ module _ (lab : Lab) (es : List Experiment) (w : World) (switch : List ℕ) (fou
       let row : Row = record { switch = switch; port = x.row.port; vlan = x.row.vlan } in
       let same : Path Wanted x (record { row = row; stands = true }) = λ i. record { row = record { switch = named i; port = x.row.port; vlan = x.row.vlan }; stands = p.0 i } in
       let gone : w.rows row ≡ false = false_from_ne_true (w.rows row) (λ there. true≢false (sym (stood x.row.port x.row.vlan there) ∙ not-true (is_found x.row found) q.1)) in
-      subst (λ (l : Line). Tells lab es w switch l) c.1 (refl, (all.stands row).1 (subst (λ (v : Wanted). Has wanted v) same has), gone)
+      subst (λ (l : AuditLine). Tells lab es w switch l) c.1 (refl, (all.stands row).1 (subst (λ (v : Wanted). Has wanted v) same has), gone)
 
-  strange : (e : ℕ × VlanId) (line : Line) → Has found e → strange_line switch wanted e ≡ Some line → Tells lab es w switch line
+  strange : (e : ℕ × VlanId) (line : AuditLine) → Has found e → strange_line switch wanted e ≡ Some line → Tells lab es w switch line
   strange e line has is =
       let c = left (list_any (is_wanted_at switch e) wanted) (Strange switch e.0 e.1) line is in
       let row : Row = record { switch = switch; port = e.0; vlan = e.1.0 } in
       let there : w.rows row ≡ true = (exact (entry_of e)).0 (Has-mapped entry_of found e has) in
-      subst (λ (l : Line). Tells lab es w switch l) c.1 (
+      subst (λ (l : AuditLine). Tells lab es w switch l) c.1 (
         refl,
         there,
         λ claim.
@@ -110,7 +110,7 @@ module _ (lab : Lab) (es : List Experiment) (w : World) (switch : List ℕ) (fou
             true≢false (sym (any_has (is_wanted_at switch e) wanted (record { row = row; stands = g.0 }) g.1 test) ∙ c.0),
       )
 
-  told : (line : Line) → Has (unordered switch found wanted) line → Tells lab es w switch line
+  told : (line : AuditLine) → Has (unordered switch found wanted) line → Tells lab es w switch line
   told line h = elim (Has-append (filter_map (lacking_line switch found) wanted) (filter_map (strange_line switch wanted) found) line h) [
     | inl g ↦ let k = kept_from (lacking_line switch found) wanted line g in lacking k.0 line k.1 k.2
     | inr g ↦ let k = kept_from (strange_line switch wanted) found line g in strange k.0 line k.1 k.2
@@ -124,7 +124,7 @@ module _ (lab : Lab) (es : List Experiment) (w : World) (switch : List ℕ) (fou
   leave true x is = absurd (true≢false is)
   leave false x is = refl
 
-  tells : (line : Line) → Tells lab es w switch line → Has (unordered switch found wanted) line
+  tells : (line : AuditLine) → Tells lab es w switch line → Has (unordered switch found wanted) line
   tells (Lacks named port vlan) t =
       let row : Row = record { switch = named; port = port; vlan = vlan.0 } in
       let x : Wanted = record { row = row; stands = true } in
@@ -150,7 +150,7 @@ module _ (lab : Lab) (es : List Experiment) (w : World) (switch : List ℕ) (fou
   tells (Node node) t = absurd t
 
   -- of each entry one line tells
-  one_each : (a b : Line) → Tells lab es w switch a → Tells lab es w switch b → entry_in a ≡ entry_in b → a ≡ b
+  one_each : (a b : AuditLine) → Tells lab es w switch a → Tells lab es w switch b → entry_in a ≡ entry_in b → a ≡ b
   one_each (Lacks n p v) (Lacks m q u) t s e = λ i. Lacks ((t.0 ∙ sym s.0) i) (e i).0 (record { 0 = (e i).1 })
   one_each (Lacks n p v) (Strange m q u) t s e = absurd (true≢false (sym s.1 ∙ (λ i. w.rows (record { switch = (s.0 ∙ sym t.0) i; port = (sym e i).0; vlan = (sym e i).1 })) ∙ t.2))
   one_each (Lacks n p v) (Node m) t s e = absurd s

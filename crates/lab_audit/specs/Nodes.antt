@@ -15,8 +15,8 @@ use Rattle.plant_tables.specs.declared.pipe_row.PipeRow.{PipeRow}
 use Rattle.lab_model.specs.Cabled.{SameNode}
 use Rattle.lab_model.specs.Claims.{claims_it}
 use Rattle.lab_model.specs.Wants.{node_row_of}
-use Rattle.lab_audit.specs.declared.report.Line.{Line}
-use Rattle.lab_audit.specs.declared.report.Line.TheVariants.{Node}
+use Rattle.script_text.specs.declared.reply.AuditLine.{AuditLine}
+use Rattle.script_text.specs.declared.reply.AuditLine.TheVariants.{Node}
 
 -- two rates are one, and two pipes
 abbrev pub same_rates : Rates → Rates → Bool
@@ -49,6 +49,6 @@ IsOff lab w name None = ⊥
 IsOff lab w name (Some m) = SameNode (w.node name) (node_row_of lab m name) → ⊥
 
 -- the line of a node that differs
-abbrev pub line_if : Bool → List ℕ → List Line
+abbrev pub line_if : Bool → List ℕ → List AuditLine
 line_if true name = Node name ∷ []
 line_if false name = []

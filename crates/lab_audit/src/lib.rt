@@ -19,4 +19,4 @@ mod wants;
 pub use auditing::audit;
 pub use fault::AuditFault;
 pub use laws::cabled_labs_differ_in_nothing;
-pub use report::{Line, Report};
+pub use report::Report;

@@ -8,20 +8,21 @@ ghost use Rattle.lab_model.specs.Courses.{node_names};
 ghost use Rattle.lab_model.specs.Holding.{Suits};
 ghost use Rattle.lab_model.specs.Wants.{node_name};
 ghost use Rattle.records_model.specs.Labs.{Sane};
+ghost use Rattle.script_text.specs.declared.reply.AuditLine.{AuditLine as AnyLine};
+ghost use Rattle.script_text.specs.declared.reply.AuditLine.TheVariants as lines;
 ghost use Rattle.lab_audit.specs.Diff.{AreDiffering, Differs, IsCompared, IsKnown, standing};
 ghost use Rattle.lab_audit.specs.Nodes.{IsOff, line_if};
 ghost use Rattle.lab_audit.specs.Reads.{Reads, unread_by};
-ghost use Rattle.lab_audit.specs.declared.report.Line.{Line as AnyLine};
-ghost use Rattle.lab_audit.specs.declared.report.Line.TheVariants as lines;
 
 use crate::holders::claimer;
 use crate::nodes::is_as_wanted;
-use crate::{AuditFault, Line, Report};
+use crate::{AuditFault, Report};
 use lab_base::{Items, Memory, Name, NodeId};
 use lab_model::name_at;
 use lab_state::LabState;
 use phys_lab::Lab;
 use plant_tables::Tables;
+use script_text::AuditLine;
 use std::alloc::Global;
 use swap_plan::node_row_of;
 use virt_topo::{Experiment, Phase};
@@ -95,7 +96,7 @@ fn push_if(nodes: &mut Report, differs: bool, node: Name) -> Result<(), Memory>
     ensures { OnOk result (nodes.new ≡ nodes.old ++ line_if differs node) }
 {
     if differs {
-        nodes.push(Line::Node { node })?;
+        nodes.push(AuditLine::Node { node })?;
     }
     Ok(())
 }

@@ -3,22 +3,23 @@ ghost use Rattle.std.specs.Prelude.{◌≡◌, ◌++◌, List, IfOk, OnOk, IfSom
 ghost use Rattle.phys_lab.specs.Labs.{Lab as AnyLab};
 ghost use Rattle.virt_topo.specs.declared.experiment.Experiment.{Experiment as AnyExperiment};
 ghost use Rattle.plant.specs.Worlds.{world_of};
+ghost use Rattle.script_text.specs.declared.reply.AuditLine.{AuditLine as AnyLine};
 ghost use Rattle.lab_audit.specs.Diff.{AreLinesOf, AreLines};
 ghost use Rattle.lab_audit.specs.Lines.{AreAllWanted};
 ghost use Rattle.lab_audit.specs.Reads.{Reads, unread_by};
-ghost use Rattle.lab_audit.specs.declared.report.Line.{Line as AnyLine};
 
 use crate::readings::rows_on;
 use crate::switches::compare_switch;
 use crate::wanted::Wanted;
-use crate::{AuditFault, Line, Report};
+use crate::{AuditFault, Report};
 use lab_base::{Items, Memory, Name};
 use phys_lab::Lab;
 use plant_tables::Tables;
+use script_text::AuditLine;
 use std::alloc::Global;
 
 /// Adds lines.
-pub(crate) fn append(lines: &mut Report, more: &[Line]) -> Result<(), Memory>
+pub(crate) fn append(lines: &mut Report, more: &[AuditLine]) -> Result<(), Memory>
     ensures { OnOk result (lines.new ≡ lines.old ++ more.now) }
 {
     for line in more {
@@ -33,7 +34,7 @@ fn lines_on<P: Tables>(
     plant: &mut P,
     switch: Name,
     wanted: &[Wanted],
-) -> Result<Vec<Line>, AuditFault>
+) -> Result<Vec<AuditLine>, AuditFault>
     ensures reads { Reads (P.seen plant.old) (P.seen plant.new) (unread_by result) }
     ensures lines { IfSome (P.seen plant.old).told (λ t. IfOk result (λ lines. (lab : AnyLab) (es : List AnyExperiment) → AreAllWanted lab es wanted.now
         → AreLinesOf lab es (world_of t.trace) switch lines.items)) }

@@ -10,10 +10,10 @@ ghost use Rattle.plant_tables.specs.Readings.{IsEntry, entry_of};
 ghost use Rattle.lab_audit.specs.Diff.{AreLinesOf};
 ghost use Rattle.lab_audit.specs.Lines.{AreAllWanted, is_found, is_wanted_at, lacking_line, strange_line};
 
-use crate::Line;
 use crate::lines::in_order;
 use crate::wanted::Wanted;
 use lab_base::{Memory, Name, VlanId};
+use script_text::AuditLine;
 use std::alloc::Global;
 use swap_plan::Port;
 
@@ -44,11 +44,11 @@ fn is_wanted(wanted: &[Wanted], switch: &Name, entry: &(u16, VlanId)) -> bool
 }
 
 /// The line of a row that is wanted on the switch and doesn't stand.
-fn lacking_line(switch: &Name, found: &[(u16, VlanId)], wanted: &Wanted) -> Option<Line>
+fn lacking_line(switch: &Name, found: &[(u16, VlanId)], wanted: &Wanted) -> Option<AuditLine>
     ensures { result ≡ lacking_line switch.now found.now wanted.now }
 {
     if wanted.stands && is_on(&wanted.row, switch) && !is_found(&wanted.row, found) {
-        Some(Line::Lacks {
+        Some(AuditLine::Lacks {
             switch: *switch,
             port: wanted.row.port,
             vlan: wanted.row.vlan,
@@ -59,13 +59,13 @@ fn lacking_line(switch: &Name, found: &[(u16, VlanId)], wanted: &Wanted) -> Opti
 }
 
 /// The line of a row that stands on the switch and isn't wanted.
-fn strange_line(switch: &Name, wanted: &[Wanted], entry: &(u16, VlanId)) -> Option<Line>
+fn strange_line(switch: &Name, wanted: &[Wanted], entry: &(u16, VlanId)) -> Option<AuditLine>
     ensures { result ≡ strange_line switch.now wanted.now entry.now }
 {
     if is_wanted(wanted, switch, entry) {
         None
     } else {
-        Some(Line::Strange {
+        Some(AuditLine::Strange {
             switch: *switch,
             port: entry.0,
             vlan: entry.1,
@@ -73,7 +73,7 @@ fn strange_line(switch: &Name, wanted: &[Wanted], entry: &(u16, VlanId)) -> Opti
     }
 }
 
-fn push_some(lines: &mut Vec<Line>, line: Option<Line>) -> Result<(), Memory>
+fn push_some(lines: &mut Vec<AuditLine>, line: Option<AuditLine>) -> Result<(), Memory>
     ensures { OnOk result (lines.new.items ≡ lines.old.items ++ listed line) }
 {
     if let Some(line) = line {
@@ -83,7 +83,7 @@ fn push_some(lines: &mut Vec<Line>, line: Option<Line>) -> Result<(), Memory>
 }
 
 fn push_lacking(
-    lines: &mut Vec<Line>,
+    lines: &mut Vec<AuditLine>,
     switch: &Name,
     found: &[(u16, VlanId)],
     wanted: &[Wanted],
@@ -97,7 +97,7 @@ fn push_lacking(
 }
 
 fn push_strange(
-    lines: &mut Vec<Line>,
+    lines: &mut Vec<AuditLine>,
     switch: &Name,
     found: &[(u16, VlanId)],
     wanted: &[Wanted],
@@ -116,7 +116,7 @@ pub(crate) fn compare_switch(
     switch: Name,
     found: &[(u16, VlanId)],
     wanted: &[Wanted],
-) -> Result<Vec<Line>, Memory>
+) -> Result<Vec<AuditLine>, Memory>
     ensures { IfOk result (λ lines. (lab : AnyLab) (es : List AnyExperiment) (w : World) → AreAllWanted lab es wanted.now
         → ((e : ℕ × ℕ) → Has (map entry_of found.now) e ↔ IsEntry w switch e) → AreLinesOf lab es w switch lines.items) }
 {

@@ -1,5 +1,5 @@
 -- The lab step of an audit: all stays as it was.
-use Rattle.std.proofs.Common.{◌≡◌, true, false, ℕ, List, map, [], ◌++◌, Option, Some, None, Err, refl, sym, ap, ◌∙◌, subst}
+use Rattle.std.proofs.Common.{◌≡◌, true, false, ℕ, List, [], ◌++◌, Option, Some, None, Err, refl, sym, ap, ◌∙◌, subst}
 use Rattle.std.specs.Prelude.{is_some}
 use Rattle.std.proofs.lemmas.Option.{same_Some}
 use Rattle.lab_base.specs.Lists.{Has}
@@ -11,7 +11,7 @@ use Rattle.swap_turns.specs.Swaps.{Moves}
 use Rattle.script_text.specs.declared.command.Command.TheVariants as commands
 use Rattle.script_text.specs.declared.reply.Reply.{Reply}
 use Rattle.script_text.specs.declared.reply.Reply.TheVariants as replies
-use Rattle.lab_core.specs.Auditing.{Audits, line_of, no_lab, told, unread, no_memory}
+use Rattle.lab_core.specs.Auditing.{Audits, no_lab, told, unread, no_memory}
 use Rattle.lab_core.specs.LabSteps.{StepOf, opened, not_opened}
 use Rattle.lab_core.specs.Sessions.{OpenSwap, Session, Setting, After, Closed, Open, Terms}
 use Rattle.lab_core.specs.Tells.{AllMove, IsAtRest, TellsPlace, of_drill_if, opens_of}
@@ -37,7 +37,7 @@ module _ (w : World) (s : LabState) (opens : List OpenSwap) (own : List Event) (
   stops : (opening : List Event) → has_outer opening ≡ false → (reply : Reply) → after.reply ≡ Some reply → Audits w s opens own after → CommandTells commands.Audit opening own reply
   stops opening quiet reply is (no_lab none d) = plain (tell_behind opening own reply quiet (still_as own replies.NoLab reply (ap has_outer d.nothing) refl (sym (ap (λ (a : After). a.reply) d.after_is) ∙ is)))
   stops opening quiet reply is (told report nothing tells exact after_is) =
-      plain (tell_behind opening own reply quiet (still_as own (replies.Audit (map line_of report)) reply (ap has_outer nothing) refl (sym (ap (λ (a : After). a.reply) after_is) ∙ is)))
+      plain (tell_behind opening own reply quiet (still_as own (replies.Audit report) reply (ap has_outer nothing) refl (sym (ap (λ (a : After). a.reply) after_is) ∙ is)))
   stops opening quiet reply is (unread name own_is after_is) = unread_so name refl quiet own_is (sym (same_Some (replies.Unread name) reply (sym (ap (λ (a : After). a.reply) after_is) ∙ is)))
   stops opening quiet reply is (no_memory wants) = none_some reply (sym (ap (λ (a : After). a.reply) wants.after_is) ∙ is)
 
@@ -50,7 +50,7 @@ module _ (w : World) (s : LabState) (opens : List OpenSwap) (own : List Event) (
 
   place : (reply : Reply) → after.reply ≡ Some reply → Audits w s opens own after → TellsPlace reply after.lab
   place reply is (no_lab none d) = place_as after.lab replies.NoLab reply (sym (ap (λ (a : After). a.reply) d.after_is) ∙ is) tt
-  place reply is (told report nothing tells exact after_is) = place_as after.lab (replies.Audit (map line_of report)) reply (sym (ap (λ (a : After). a.reply) after_is) ∙ is) tt
+  place reply is (told report nothing tells exact after_is) = place_as after.lab (replies.Audit report) reply (sym (ap (λ (a : After). a.reply) after_is) ∙ is) tt
   place reply is (unread name own_is after_is) = place_as after.lab (replies.Unread name) reply (sym (ap (λ (a : After). a.reply) after_is) ∙ is) tt
   place reply is (no_memory wants) = none_some reply (sym (ap (λ (a : After). a.reply) wants.after_is) ∙ is)
 

@@ -1,5 +1,5 @@
 -- A reading that was not answered, over a controller at work: it changes nothing but what is told.
-use Rattle.std.proofs.Common.{◌≡◌, ℕ, ◌≤◌, ◌+◌, List, [], ◌∷◌, ◌++◌, length, map, true, false, Option, Some, None, Ok, Err, refl, sym, ◌∙◌, subst, arith, inl, inr, length-append}
+use Rattle.std.proofs.Common.{◌≡◌, ℕ, ◌≤◌, ◌+◌, List, [], ◌∷◌, ◌++◌, length, true, false, Option, Some, None, Ok, Err, refl, sym, ◌∙◌, subst, arith, inl, inr, length-append}
 use Rattle.std.specs.Prelude.{IfSome}
 use Rattle.std.proofs.lemmas.Bool.{cases_lt}
 use Rattle.std.proofs.lemmas.List.{append-nil, take-append-le, take_all}
@@ -33,16 +33,16 @@ use Rattle.lab_audit.specs.Diff.{IsDiff, IsKnown, TellsSwitches}
 use Rattle.lab_audit.specs.Reads.{Reads, steps_of, unread_in}
 use Rattle.lab_audit.specs.declared.fault.AuditFault.{AuditFault}
 use Rattle.lab_audit.specs.declared.fault.AuditFault.TheVariants as broken
-use Rattle.lab_audit.specs.declared.report.Line.{Line}
 use Rattle.lab_core.specs.Controller.{Control, WorksWith}
 use Rattle.cost_rule.specs.declared.rule.RuleNumber.{RuleNumber}
 use Rattle.script_text.specs.Replies.{blames_device, closes}
 use Rattle.script_text.specs.declared.command.Command.TheVariants as commands
+use Rattle.script_text.specs.declared.reply.AuditLine.{AuditLine}
 use Rattle.script_text.specs.declared.reply.Reply.{Reply}
 use Rattle.script_text.specs.declared.reply.Reply.TheVariants as replies
 use Rattle.swap_turns.proofs.Pushing.{rose_later}
 use Rattle.swap_turns.proofs.Telling.{if_both, sound_front}
-use Rattle.lab_core.specs.Auditing.{Audits, broken_by, line_of, no_lab as lab_missing, told as all_told, unread as one_unread}
+use Rattle.lab_core.specs.Auditing.{Audits, broken_by, no_lab as lab_missing, told as all_told, unread as one_unread}
 use Rattle.lab_core.specs.declared.fault.CoreFault.TheVariants as faults
 use Rattle.lab_core.specs.Obey.{AnswersBy, Doing, ObeysCommand, StepsBy, Wanting, does_command, wants_of_command}
 use Rattle.lab_core.specs.Sessions as sessions
@@ -183,7 +183,7 @@ module _ (rule : RuleNumber) (devices : ℕ) (before now : Seen) (unread : Optio
     stopped = λ ran. (λ h. cc h, λ h. absurd (runs_on_still unread r ran h));
   }
 
-  pub audit_wanted : Reads before now None → ObeysCommand rule commands.Audit devices before now c c opens (Err faults.Memory)
+  audit_wanted : Reads before now None → ObeysCommand rule commands.Audit devices before now c c opens (Err faults.Memory)
   audit_wanted r = record {
     to = opens;
     obeys = ([], r.told, some_all before.told (λ w. StepsBy Done Wants w.trace [] c.lab opens (Err faults.Memory)) (λ w. record { ends = (refl, refl, refl); sound = λ sound. subst (λ l. IsSound the_texts l) (sym (append-nil w.trace)) sound }));
@@ -206,14 +206,14 @@ module _ (rule : RuleNumber) (devices : ℕ) (before now : Seen) (c : Control) (
       (some_all before.told (λ w. Audits (world_of w.trace) c.lab opens [] (open_by replies.NoLab c.lab opens)) (λ w. lab_missing none (record { nothing = refl; after_is = refl })))
 
   -- all readings were answered
-  pub audit_tells : (report : List Line) → Reads before now None
+  pub audit_tells : (report : List AuditLine) → Reads before now None
       → IfSome before.told (λ w. IsKnown (lab_in c.lab.lab) c.lab.experiments (world_of w.trace) → IsDiff (lab_in c.lab.lab) c.lab.experiments (world_of w.trace) report)
       → IfSome before.told (λ w. TellsSwitches (lab_in c.lab.lab) c.lab.experiments (world_of w.trace) report)
-      → ObeysCommand rule commands.Audit devices before now c c opens (Ok (replies.Audit (map line_of report)))
-  audit_tells report r exact switches = audit_answered rule devices before now None c opens works (replies.Audit (map line_of report)) refl refl (λ h. false_true h) (λ h. false_true h) r
+      → ObeysCommand rule commands.Audit devices before now c c opens (Ok (replies.Audit report))
+  audit_tells report r exact switches = audit_answered rule devices before now None c opens works (replies.Audit report) refl refl (λ h. false_true h) (λ h. false_true h) r
       (if_both before.told (λ w. IsKnown (lab_in c.lab.lab) c.lab.experiments (world_of w.trace) → IsDiff (lab_in c.lab.lab) c.lab.experiments (world_of w.trace) report)
       (λ w. TellsSwitches (lab_in c.lab.lab) c.lab.experiments (world_of w.trace) report)
-      (λ w. Audits (world_of w.trace) c.lab opens [] (open_by (replies.Audit (map line_of report)) c.lab opens)) (λ w e s. all_told report refl s e refl) exact switches)
+      (λ w. Audits (world_of w.trace) c.lab opens [] (open_by (replies.Audit report) c.lab opens)) (λ w e s. all_told report refl s e refl) exact switches)
 
   -- one was not, or memory was wanting
   pub audit_broken : devices ≤ before.faults.devices → (fault : AuditFault) → Reads before now (unread_in fault) → ObeysCommand rule commands.Audit devices before now c c opens (broken_by fault)

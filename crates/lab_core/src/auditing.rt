@@ -1,48 +1,17 @@
 // `audit`: in what the devices differ from what the experiments of the lab want.
-ghost use Rattle.std.specs.Prelude.{◌≡◌, ◌≤◌, ℕ, List, IfOk, map};
+ghost use Rattle.std.specs.Prelude.{◌≡◌, ◌≤◌, ℕ, List};
 ghost use Rattle.cost_rule.specs.declared.rule.RuleNumber.{RuleNumber as AnyRule};
 ghost use Rattle.script_text.specs.declared.command.Command.TheVariants as commands;
-ghost use Rattle.lab_core.specs.Auditing.{broken_by, line_of};
+ghost use Rattle.lab_core.specs.Auditing.{broken_by};
 ghost use Rattle.lab_core.specs.Controller.{CanWork, WorksWith};
 ghost use Rattle.lab_core.specs.Obey.{ObeysCommand};
 ghost use Rattle.lab_core.specs.Sessions.{OpenSwap};
 
 use crate::controller::Controller;
 use crate::fault::CoreFault;
-use lab_audit::{AuditFault, Line, audit};
-use lab_base::{Items, Memory};
+use lab_audit::{AuditFault, audit};
 use plant_tables::Tables;
-use script_text::{AuditLine, Reply};
-use std::alloc::Global;
-
-fn line_of(line: &Line) -> AuditLine
-    ensures { result ≡ line_of line.now }
-{
-    match line {
-        Line::Lacks { switch, port, vlan } => AuditLine::Lacks {
-            switch: *switch,
-            port: *port,
-            vlan: *vlan,
-        },
-        Line::Strange { switch, port, vlan } => AuditLine::Strange {
-            switch: *switch,
-            port: *port,
-            vlan: *vlan,
-        },
-        Line::Node { node } => AuditLine::Node { node: *node },
-    }
-}
-
-/// The lines of a report, as a reply has them.
-fn lines_of(alloc: Global, report: &[Line]) -> Result<Items<AuditLine>, Memory>
-    ensures { IfOk result (λ lines. lines ≡ map line_of report.now) }
-{
-    let mut lines = Items::new(alloc);
-    for line in report {
-        lines.push(line_of(line))?;
-    }
-    Ok(lines)
-}
+use script_text::Reply;
 
 /// The reply to an audit that a reading broke off.
 fn broken_by(fault: &AuditFault) -> Result<Reply, CoreFault>
@@ -66,10 +35,7 @@ impl Controller {
             return Ok(Reply::NoLab);
         };
         match audit(self.alloc, &self.lab, plant) {
-            Ok(report) => match lines_of(self.alloc, report.as_slice()) {
-                Ok(lines) => Ok(Reply::Audit { lines }),
-                Err(Memory) => Err(CoreFault::Memory),
-            },
+            Ok(lines) => Ok(Reply::Audit { lines }),
             Err(fault) => broken_by(&fault),
         }
     }

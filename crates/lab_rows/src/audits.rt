@@ -2,12 +2,13 @@
 use crate::records::state_of;
 use crate::steps::ops_of;
 use crate::texts::Texts;
-use lab_audit::{AuditFault, Line, audit};
+use lab_audit::{AuditFault, audit};
 use lab_base::{Kind, Memory, Name, Text, VlanId};
 use lab_state::LabState;
 use plant::{DeviceOp, Plant};
 use plant_mem::MemLab;
 use row_words::{Untold, at_bar, push_number};
+use script_text::AuditLine;
 use std::alloc::Global;
 
 /// Adds a word, a switch, a port and a VLAN id.
@@ -24,11 +25,17 @@ fn push_row(
     push_number(out, u64::from(vlan.0))
 }
 
-fn push_line(out: &mut Text, line: &Line) -> Result<(), Memory> {
+fn push_line(out: &mut Text, line: &AuditLine) -> Result<(), Memory> {
     match line {
-        Line::Lacks { switch, port, vlan } => push_row(out, b"lacks ", switch, *port, *vlan)?,
-        Line::Strange { switch, port, vlan } => push_row(out, b"strange ", switch, *port, *vlan)?,
-        Line::Node { node } => {
+        AuditLine::Lacks { switch, port, vlan } => push_row(out, b"lacks ", switch, *port, *vlan)?,
+        AuditLine::Strange { switch, port, vlan } => push_row(
+            out,
+            b"strange ",
+            switch,
+            *port,
+            *vlan,
+        )?,
+        AuditLine::Node { node } => {
             out.push_bytes(b"node ")?;
             out.push_bytes(node.bytes())?;
         }
@@ -36,7 +43,7 @@ fn push_line(out: &mut Text, line: &Line) -> Result<(), Memory> {
     out.push(b'\n')
 }
 
-fn push_lines(out: &mut Text, lines: &[Line]) -> Result<(), Memory> {
+fn push_lines(out: &mut Text, lines: &[AuditLine]) -> Result<(), Memory> {
     for line in lines {
         push_line(out, line)?;
     }

@@ -1,5 +1,5 @@
 -- Audits in a run: the reports that they tell, and that they change nothing.
-use Rattle.std.proofs.Common.{◌≡◌, ◌⊎◌, inl, inr, ⊎_elim, ℕ, ◌^◌, Bool, true, false, List, [], ◌∷◌, ◌++◌, append_assoc, map, Option, Some, refl, sym, ◌∙◌, ap, subst}
+use Rattle.std.proofs.Common.{◌≡◌, ◌⊎◌, inl, inr, ⊎_elim, ℕ, ◌^◌, Bool, true, false, List, [], ◌∷◌, ◌++◌, append_assoc, Option, Some, refl, sym, ◌∙◌, ap, subst}
 use Rattle.std.proofs.lemmas.List.{append-nil}
 use Rattle.lab_base.specs.Counts.{Rose}
 use Rattle.plant.specs.Disks.{ArePossible, disk}
@@ -14,7 +14,6 @@ use Rattle.lab_model.proofs.TraceLaws.{world_push}
 use Rattle.records_model.specs.Labs.{LabState, lab_in}
 use Rattle.records_model.specs.Works.{IsSound}
 use Rattle.lab_state.specs.Texts.{the_texts}
-use Rattle.lab_audit.specs.declared.report.Line.{Line}
 use Rattle.lab_audit.proofs.Nothing as nothings
 use Rattle.script_text.specs.Drills.{drill_of}
 use Rattle.script_text.specs.declared.command.Command.{Command}
@@ -22,7 +21,7 @@ use Rattle.script_text.specs.declared.command.Command.TheVariants as commands
 use Rattle.script_text.specs.declared.reply.AuditLine.{AuditLine}
 use Rattle.script_text.specs.declared.reply.Reply.{Reply}
 use Rattle.script_text.specs.declared.reply.Reply.TheVariants as replies
-use Rattle.lab_core.specs.Auditing.{Audits, line_of, no_lab, told, unread, no_memory}
+use Rattle.lab_core.specs.Auditing.{Audits, no_lab, told, unread, no_memory}
 use Rattle.lab_core.specs.Breaks.{Breaks, stopped, failed, unanswered}
 use Rattle.lab_core.specs.Commands.{LabStep}
 use Rattle.lab_core.specs.LabSteps.{opened, not_opened}
@@ -48,12 +47,13 @@ broke_so events o reply (unanswered is) told_it = absurd (cc (is, told_it))
 
 -- ONE AUDIT
 module _ (w : World) (s : LabState) (opens : List OpenSwap) (own : List Event) (after : After) where
-  -- the report that it told
-  tells : (lines : List AuditLine) → after.reply ≡ Some (replies.Audit lines) → Audits w s opens own after → (report : List Line) × IsReport w s report × (lines ≡ map line_of report) × (own ≡ [])
+  -- the lines that it told are a report
+  tells : (lines : List AuditLine) → after.reply ≡ Some (replies.Audit lines) → Audits w s opens own after → IsReport w s lines × (own ≡ [])
   tells lines is (no_lab none d) = absurd (cc (is, ap (λ (a : After). a.reply) d.after_is))
   tells lines is (told report nothing switches exact after_is) =
-      let both : Some (replies.Audit lines) ≡ Some (replies.Audit (map line_of report)) = sym is ∙ ap (λ (a : After). a.reply) after_is in
-      (report, record { switches = switches; exact = exact }, (let same : lines ≡ map line_of report = cc both in same), nothing)
+      let both : Some (replies.Audit lines) ≡ Some (replies.Audit report) = sym is ∙ ap (λ (a : After). a.reply) after_is in
+      let same : lines ≡ report = cc both in
+      (subst (λ (l : List AuditLine). IsReport w s l) (sym same) (record { switches = switches; exact = exact }), nothing)
   tells lines is (unread name own_is after_is) = absurd (cc (is, ap (λ (a : After). a.reply) after_is))
   tells lines is (no_memory wants) = absurd (cc (is, ap (λ (a : After). a.reply) wants.after_is))
 
@@ -97,16 +97,14 @@ module _ (terms : Terms) (trace : List Event) (piece : Piece) (s last : LabState
       (λ x. ⊎_elim (λ none. inl (sym all_own ∙ none)) (λ one. inr (one.0, sym all_own ∙ one.1)) (quiet (world_of (trace ++ piece.opening)) x.0 (opens_of piece.from) all ends x.1)) went
 
   -- the report is of the lab and of the world behind it, which are those before it
-  tells_by : (lines : List AuditLine) → reply ≡ replies.Audit lines → (report : List Line) × IsReport (world_of (trace ++ steps_of piece)) last report × (lines ≡ map line_of report) × (piece.own ≡ [])
+  tells_by : (lines : List AuditLine) → reply ≡ replies.Audit lines → IsReport (world_of (trace ++ steps_of piece)) last lines × (piece.own ≡ [])
   tells_by lines is = ⊎_elim (λ broke. absurd (⊎_elim (λ a. cc (a, is)) (λ a. cc (a, is)) (broke_so piece.opening steps.told reply broke.breaks told_so.0)))
       (λ x.
       let w = world_of (trace ++ piece.opening) in
       let t = tells w x.0 (opens_of piece.from) all ends lines (told_so.0 ∙ ap (λ r. Some r) is) x.1 in
-      let none : piece.own ≡ [] = sym all_own ∙ t.3 in
+      let none : piece.own ≡ [] = sym all_own ∙ t.1 in
       let steps_are : trace ++ piece.opening ≡ trace ++ steps_of piece = ap (λ l. trace ++ l) (sym (ap (λ l. piece.opening ++ l) none ∙ append-nil piece.opening)) in (
-        t.0,
-        subst (λ l. IsReport (world_of l) last t.0) steps_are (subst (λ (u : LabState). IsReport w u t.0) (sym (kept w x.0 (opens_of piece.from) all ends x.1)) t.1),
-        t.2,
+        subst (λ l. IsReport (world_of l) last lines) steps_are (subst (λ (u : LabState). IsReport w u lines) (sym (kept w x.0 (opens_of piece.from) all ends x.1)) t.0),
         none,
       ))
       went
@@ -149,7 +147,7 @@ module _ (terms : Terms) (choices : Option Choices) (old new : Outside) (status 
     audit_told =
         let l : Leads terms trace b.piece = one_piece.leads (ap drill_of asks) (not_shut (is_closed b.piece.to) refl) in
         let x = tells_by terms trace b.piece l.first l.last l.steps asks (replies.Audit lines) replied lines refl in
-        (subst (λ l. TellsDifference l lines) (sym (trace-push t.trace before b)) (record { lab = l.last; at = l.behind; report = x.0; is = x.1; lines_are = x.2 }), x.3)
+        (subst (λ l. TellsDifference l lines) (sym (trace-push t.trace before b)) (record { lab = l.last; at = l.behind; is = x.0 }), x.1)
 
     -- OVER A SOUND TRACE nothing differs
     pub audit_nothing : IsSound the_texts t.trace → lines ≡ []
@@ -163,8 +161,7 @@ module _ (terms : Terms) (choices : Option Choices) (old new : Outside) (status 
         let images : AllStandFor end l.last = subst (λ y. ImagesAfter terms y trace b.piece l.last) one done.images in
         let possible : ArePossible end (disk A end).durable (disk B end).durable = (durable_image (disk A end), durable_image (disk B end)) in
         let said = as_said end (disk A end).durable (disk B end).durable l.last done.sound possible (images (disk A end).durable (disk B end).durable possible) in
-        let none : x.0 ≡ [] = nothings.nothing (lab_in l.last.lab) l.last.experiments (world_of end) said.cabled x.0 (x.1.exact (nothings.known (lab_in l.last.lab) l.last.experiments (world_of end) said.cabled)) in
-        x.2 ∙ ap (λ l. map line_of l) none
+        nothings.nothing (lab_in l.last.lab) l.last.experiments (world_of end) said.cabled lines (x.0.exact (nothings.known (lab_in l.last.lab) l.last.experiments (world_of end) said.cabled))
 
 -- THE DEVICES' COUNT ROSE where one did not tell what it holds, over every plant
 pub audit_risen : (terms : Terms) (choices : Option Choices) (old new : Outside) (status : Status) (before after : List Begun) (b : Begun) (name : List ℕ) → Ran terms choices old new status (before ++ b ∷ after)

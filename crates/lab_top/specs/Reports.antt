@@ -1,5 +1,5 @@
 -- AUDITS IN A RUN: what their replies tell, and that they change nothing.
-use Rattle.std.specs.Prelude.{◌≡◌, List, [], ◌++◌, map}
+use Rattle.std.specs.Prelude.{◌≡◌, List, [], ◌++◌}
 use Rattle.plant.specs.Disks.{disk}
 use Rattle.plant.specs.Events.{Event}
 use Rattle.plant.specs.Worlds.{World, world_of}
@@ -9,15 +9,13 @@ use Rattle.virt_topo.specs.declared.experiment.Experiment.{Experiment}
 use Rattle.lab_model.specs.OnCourse.{own_events}
 use Rattle.records_model.specs.Labs.{LabState, lab_in}
 use Rattle.lab_audit.specs.Diff.{IsDiff, IsKnown, TellsSwitches}
-use Rattle.lab_audit.specs.declared.report.Line.{Line}
 use Rattle.script_text.specs.declared.reply.AuditLine.{AuditLine}
-use Rattle.lab_core.specs.Auditing.{line_of}
 use Rattle.lab_core.specs.Moments.{IsLabAt}
 use Rattle.lab_top.specs.Pieces.{Piece, steps_of}
 
 -- A REPORT of a world beside a lab: its lines of switches are exactly those of the difference, and where the world leaves open no state that is compared,
 -- it is the difference
-pub record IsReport (w : World) (s : LabState) (report : List Line) : Type 0 where
+pub record IsReport (w : World) (s : LabState) (report : List AuditLine) : Type 0 where
   pub switches : TellsSwitches (lab_in s.lab) s.experiments w report
   pub exact : IsKnown (lab_in s.lab) s.experiments w → IsDiff (lab_in s.lab) s.experiments w report
 
@@ -25,9 +23,7 @@ pub record IsReport (w : World) (s : LabState) (report : List Line) : Type 0 whe
 pub record TellsDifference (trace : List Event) (lines : List AuditLine) : Type 0 where
   pub lab : LabState
   pub at : IsLabAt trace lab
-  pub report : List Line
-  pub is : IsReport (world_of trace) lab report
-  pub lines_are : lines ≡ map line_of report
+  pub is : IsReport (world_of trace) lab lines
 
 -- A COMMAND CHANGES NOTHING by its own steps: no side and no table, and none of them is a step of an experiment's course
 pub record ChangesNothing (trace : List Event) (piece : Piece) : Type 0 where
