@@ -308,6 +308,33 @@ fn lone_of(plan: Plan<'_>, layout: &Layout) -> Option<Point>
     })
 }
 
+/// A point at measures from the left and from above.
+fn point(x: Px, y: Px) -> Point {
+    Point {
+        x: x.small(),
+        y: y.small(),
+    }
+}
+
+/// The strip of VLAN ids below a layout, as wide as that.
+fn strip_below(layout: &Layout, across: Px) -> lab_picture::Place {
+    small(Place {
+        x: MARGIN,
+        y: layout.high + 40,
+        wide: across,
+        high: Px(14),
+    })
+}
+
+/// How far a layout reaches with the lists below it.
+fn reach_of(layout: &Layout, view: &View) -> Reach {
+    Reach {
+        wide: layout.wide.0,
+        high: (layout.high + lists_high(view, layout.wide)).0,
+    }
+}
+
+/// The picture of a layout.
 fn drawn(alloc: Global, plan: Plan<'_>, layout: &Layout) -> Result<Geometry, Memory>
     requires { length layout.now.spots.items ≡ length plan.view.now.switches }
     ensures { IfOk result (IsLaid plan.entry.view.now) }
@@ -317,21 +344,12 @@ fn drawn(alloc: Global, plan: Plan<'_>, layout: &Layout) -> Result<Geometry, Mem
     let across = wide - MARGIN * 2;
     let top = layout.high + 10;
     let trunks = trunks_of(alloc, plan, layout)?;
-    let strip = small(Place {
-        x: MARGIN,
-        y: top + 30,
-        wide: across,
-        high: Px(14),
-    });
+    let strip = strip_below(layout, across);
     let cells = cells_apart(alloc, plan, layout)?;
     let cards = cards_of(alloc, layout)?;
     let echoes = echoes_of(alloc, layout)?;
     let entries = entries_of(alloc, view, wide, top)?;
-    let reach = Reach {
-        wide: wide.0,
-        high: (layout.high + lists_high(view, wide)).0,
-    }
-    .over_picture(
+    let reach = reach_of(layout, view).over_picture(
         strip,
         cells.as_slice(),
         cards.as_slice(),
@@ -353,14 +371,8 @@ fn drawn(alloc: Global, plan: Plan<'_>, layout: &Layout) -> Result<Geometry, Mem
         lone: lone_of(plan, layout),
         marks: marks_of(alloc, view.owners.len(), across)?,
         strip,
-        ids: Point {
-            x: MARGIN.small(),
-            y: (top + 20).small(),
-        },
-        list: Point {
-            x: MARGIN.small(),
-            y: (top + 80).small(),
-        },
+        ids: point(MARGIN, top + 20),
+        list: point(MARGIN, top + 80),
         entries,
         second: second(view).small(),
     })

@@ -409,6 +409,23 @@ impl Layout {
         self.put_each(&forest.order, &mut tops);
         Ok(end)
     }
+
+    /// Puts so many machines without an interface below all that hangs on switches, if there are any. The answer is where they end.
+    fn put_lone(&mut self, lone: usize, x: Px, top: Px) -> Px
+        ensures rest { self.new ≡ record self.old { lone = self.new.lone } }
+    {
+        if lone == 0 {
+            return top;
+        }
+        let high = rows_high(lone, self.lone_columns);
+        self.lone = Place {
+            x,
+            y: top + 4,
+            wide: (self.cell + GAP) * self.lone_columns as u64,
+            high,
+        };
+        top + 4 + high + BETWEEN
+    }
 }
 
 /// The layout with at most so many machines in a row.
@@ -444,18 +461,7 @@ pub(crate) fn layout_of(
         lone_columns,
     };
     layout.measure(&plan.forest.order);
-    let mut y = layout.put_all(alloc, plan.forest, head_high(wide))?;
-    if lone > 0 {
-        let high = rows_high(lone, lone_columns);
-        let wide = (cell + GAP) * lone_columns as u64;
-        layout.lone = Place {
-            x,
-            y: y + 4,
-            wide,
-            high,
-        };
-        y = y + 4 + high + BETWEEN;
-    }
-    layout.high = y;
+    let below = layout.put_all(alloc, plan.forest, head_high(wide))?;
+    layout.high = layout.put_lone(lone, x, below);
     Ok(layout)
 }
