@@ -11,6 +11,7 @@ use Rattle.node_maps.specs.Least.{IsFirstLeast}
 use Rattle.node_maps.specs.Moved.{may_share}
 use Rattle.map_anneal.specs.Sought.{Sought, choices, mapped, price, LocallyBest}
 use Rattle.map_anneal.specs.Walk.{walk}
+use Rattle.assign_core.specs.declared.exact.TheConstants.{MAX_CHOICES}
 use Rattle.assign_core.specs.declared.whole.Solved.{Solved}
 use Rattle.assign_core.specs.declared.whole.Solved.TheVariants.{Least, Local, None as NoMap, GaveUp}
 
@@ -59,11 +60,11 @@ IfFound (Local m c) Holds = Holds m
 IfFound NoMap Holds = Unit {0}
 IfFound GaveUp Holds = Unit {0}
 
--- the answers that are allowed: with at most 65,536 candidates the cheapest map, or none where there is none;
+-- the answers that are allowed: with at most MAX_CHOICES choices of candidates the cheapest map, or none where there is none;
 -- with more a locally best map that costs at most every map of the walk from FirstFit, or giving up where FirstFit isn't feasible
 abbrev pub IsAllowed : Sought → ℕ → Solved → Type 0
-IsAllowed s seed (Least m c) = (count (choices s) ≤ 65536) × IsFirstLeast (price s) (node_maps s) m × (c ≡ price s m)
-IsAllowed s seed NoMap = (count (choices s) ≤ 65536) × (node_maps s ≡ [])
-IsAllowed s seed (Local m c) = (start : Mapping) × (65536 < count (choices s)) × (first_fit s.lab s.free s.wiring ≡ Some start)
+IsAllowed s seed (Least m c) = (count (choices s) ≤ MAX_CHOICES) × IsFirstLeast (price s) (node_maps s) m × (c ≡ price s m)
+IsAllowed s seed NoMap = (count (choices s) ≤ MAX_CHOICES) × (node_maps s ≡ [])
+IsAllowed s seed (Local m c) = (start : Mapping) × (MAX_CHOICES < count (choices s)) × (first_fit s.lab s.free s.wiring ≡ Some start)
     × LocallyBest s m × All (λ x. price s m ≤ price s x) (walk s start seed) × (c ≡ price s m)
-IsAllowed s seed GaveUp = (65536 < count (choices s)) × (first_fit s.lab s.free s.wiring ≡ None)
+IsAllowed s seed GaveUp = (MAX_CHOICES < count (choices s)) × (first_fit s.lab s.free s.wiring ≡ None)

@@ -8,7 +8,7 @@ ghost use Rattle.assign_core.specs.Exact.{node_maps};
 ghost use Rattle.assign_core.specs.Begun.{HasNone};
 
 use lab_base::{IfaceId, Items, Memory};
-use map_anneal::{Moves, candidate};
+use map_anneal::Moves;
 use node_maps::{Candidates, Place};
 use phys_lab::Lab;
 use std::alloc::Global;
@@ -24,7 +24,7 @@ fn first_places(alloc: Global, listed: &Candidates) -> Result<Option<Items<Place
         if listed.count(virt) == 0 {
             return Ok(None);
         }
-        places.push(candidate(listed, virt, 0))?;
+        places.push(listed.at(virt, 0))?;
     }
     Ok(Some(places))
 }

@@ -112,20 +112,20 @@ fn fits(
     alloc: Global,
     placing: &Placing,
     places: &mut Vec<Place>,
-    place: Place,
+    place: &Place,
     given: &mut Given,
 ) -> Result<bool, Memory>
     requires placing { IsPlacing placing.now }
     requires served { is_some (plugs_of placing.now.mapper.lab.now placing.now.mapper.wiring.now places.old.items) ≡ true }
     requires more { length places.old.items < length placing.now.mapper.wiring.now.nodes }
-    requires node { place.0.0 < length placing.now.mapper.lab.now.nodes }
+    requires node { place.now.0.0 < length placing.now.mapper.lab.now.nodes }
     requires idle { IsIdle placing.now.mapper.lab.now given.old }
     ensures same { OnOk result (places.new.items ≡ places.old.items) }
     ensures idle { OnOk result (IsIdle placing.now.mapper.lab.now given.new) }
-    ensures fits { IfOk result (λ yes. yes ≡ fits_next placing.now.mapper.lab.now placing.now.mapper.wiring.now places.old.items place) }
+    ensures fits { IfOk result (λ yes. yes ≡ fits_next placing.now.mapper.lab.now placing.now.mapper.wiring.now places.old.items place.now) }
 {
     let node = place.0;
-    places.push(place)?;
+    places.push(*place)?;
     let yes = keeps_node(alloc, placing, places, node, given)?;
     places.pop();
     Ok(yes)
@@ -150,8 +150,9 @@ fn first_fitting(
     let next = places.len();
     let listed = placing.candidates;
     for number in 0..listed.count(next) {
-        if fits(alloc, placing, places, listed.at(next, number), given)? {
-            return Ok(Some(listed.at(next, number)));
+        let place = listed.at(next, number);
+        if fits(alloc, placing, places, &place, given)? {
+            return Ok(Some(place));
         }
     }
     Ok(None)

@@ -24,7 +24,7 @@ in_filter f (x ∷ xs) p h is = by (λ (c : Contains xs p). in_filter f xs p c i
     by rest zero lt at = subst (λ (b : Bool). Contains (cond b (x ∷ filter f xs) (filter f xs)) p) (sym (ap f at ∙ is)) (0, omega arith, at)
     by rest (suc k) lt at = later (f x) (rest (k, omega (arith, lt), at))
 
-of_virt : (lab : Lab) (free : Free) (w : Wiring) (v : ℕ) → v < length w.nodes → get_or (candidates lab free w) v [] ≡ candidates_of lab free w (virt_at w v)
+pub of_virt : (lab : Lab) (free : Free) (w : Wiring) (v : ℕ) → v < length w.nodes → get_or (candidates lab free w) v [] ≡ candidates_of lab free w (virt_at w v)
 unfolding candidates
 of_virt lab free w v lt = get_or-map (λ (x : VirtNode). candidates_of lab free w x) w.nodes v no_virt [] lt
 

@@ -1,5 +1,5 @@
 -- Known candidates of a virtual node that were tried.
-use Rattle.std.proofs.Common.{◌≡◌, ◌<◌, ◌≤◌, ◌∙◌, inl, inr, ℕ, Bool, List, [], length, get_or, true, false, cond, Option, Some, None, ap, sym, subst, get_or-set_same, get_or-set_other}
+use Rattle.std.proofs.Common.{◌≡◌, ◌<◌, ◌≤◌, ◌∙◌, inl, inr, ℕ, Bool, List, [], length, get_or, true, false, cond, Option, Some, None, Contains, ap, sym, subst, get_or-set_same, get_or-set_other}
 use Rattle.std.specs.Prelude.{IsTrue, ◌↔◌}
 use Rattle.std.proofs.Math.ListN.{set}
 use Rattle.std.proofs.lemmas.Bool.{cases_eq}
@@ -22,23 +22,26 @@ use Rattle.map_anneal.proofs.Undone.{mapping_is}
 abbrev pub candidate_at : Sought → ℕ → ℕ → Place
 candidate_at s v number = get_or (candidates_at s v) number no_place
 
+-- it is among the candidates
+pub candidate_among : (s : Sought) (v number : ℕ) → number < length (candidates_at s v) → Contains (candidates_at s v) (candidate_at s v number)
+candidate_among s v number lt = (number, lt, get_or_default (candidates_at s v) number (candidate_at s v number) no_place lt)
+
 -- a candidate that is known is no cheaper
 pub known_no_cheaper : (s : Sought) (m : Mapping) (v number : ℕ) (row : List Bool) → IsRow s m v row → number < length row → get_or row number false ≡ true
     → IsNoCheaper s m (moved s m v (candidate_at s v number))
 known_no_cheaper s m v number row is lt noted = no_cheaper s m (set m.places v (candidate_at s v number)) (is.known number lt noted)
 
--- a candidate that came to nothing, in the map and by its number
-pub tried_no_less : (s : Sought) (m at : Mapping) (v number below : ℕ) (p : Place) → at ≡ m → below ≡ price s m → p ≡ candidate_at s v number → IsNoLess s below (set at.places v p)
+-- a candidate that came to nothing
+pub tried_no_less : (s : Sought) (m at : Mapping) (v number below : ℕ) → at ≡ m → below ≡ price s m → IsNoLess s below (set at.places v (candidate_at s v number))
     → IsNoLess s (price s m) (set m.places v (candidate_at s v number))
-tried_no_less s m at v number below p same cost is least =
+tried_no_less s m at v number below same cost least =
     subst (λ (n : ℕ). IsNoLess s n (set m.places v (candidate_at s v number))) cost
-    (subst (λ (q : Place). IsNoLess s below (set m.places v q)) is
-    (subst (λ (y : Mapping). IsNoLess s below (set y.places v p)) same least))
+    (subst (λ (y : Mapping). IsNoLess s below (set y.places v (candidate_at s v number))) same least)
 
-pub tried_no_cheaper : (s : Sought) (m at : Mapping) (v number below : ℕ) (p : Place) → at ≡ m → below ≡ price s m → p ≡ candidate_at s v number
-    → ((other : Mapping) → moved s at v p ≡ Some other → below ≤ price s other) → IsNoCheaper s m (moved s m v (candidate_at s v number))
-tried_no_cheaper s m at v number below p same cost is dear other found =
-    subst (λ (n : ℕ). n ≤ price s other) cost (dear other (ap (λ (y : Mapping). moved s y v p) same ∙ ap (λ (q : Place). moved s m v q) is ∙ found))
+pub tried_no_cheaper : (s : Sought) (m at : Mapping) (v number below : ℕ) → at ≡ m → below ≡ price s m
+    → ((other : Mapping) → moved s at v (candidate_at s v number) ≡ Some other → below ≤ price s other) → IsNoCheaper s m (moved s m v (candidate_at s v number))
+tried_no_cheaper s m at v number below same cost dear other found =
+    subst (λ (n : ℕ). n ≤ price s other) cost (dear other (ap (λ (y : Mapping). moved s y v (candidate_at s v number)) same ∙ found))
 
 -- where no candidate by its number is cheaper, no move is
 pub no_move : (s : Sought) (m : Mapping) (v : ℕ) → ((k : ℕ) → k < length (candidates_at s v) → IsNoCheaper s m (moved s m v (candidate_at s v k))) → NoMove s m v

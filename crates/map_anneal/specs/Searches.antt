@@ -1,11 +1,12 @@
 -- The searches of the code: what they go by, and the maps at hand.
-use Rattle.std.specs.Prelude.{◌≡◌, []}
+use Rattle.std.specs.Prelude.{◌≡◌, [], map}
 use Rattle.phys_lab.specs.Labs.{Lab}
 use Rattle.phys_lab.specs.declared.free.Free.{Free}
 use Rattle.virt_topo.specs.declared.wiring.Wiring.{Wiring}
 use Rattle.cost_rule.specs.declared.rule.RuleNumber.{RuleNumber}
 use Rattle.node_maps.specs.NodeMaps.{candidates as listed_in, ends_of}
 use Rattle.node_maps.specs.Indexed.{IsIndex}
+use Rattle.node_maps.specs.Rooms.{room_of}
 use Rattle.map_board.specs.Tables.{IsSetting, IsTableOf}
 use Rattle.map_board.specs.Boards.{IsBoard}
 use Rattle.map_anneal.specs.declared.search.Priced.{Priced}
@@ -23,14 +24,16 @@ pub record IsPriced (s : Sought) (p : Priced) : Type 0 where
 abbrev pub sought_of : Moves → RuleNumber → Sought
 sought_of x number = sought x.setting.mapper.lab.now x.setting.mapper.free.now x.setting.mapper.wiring.now number
 
--- the setting is one, and the candidates are its
+-- the setting is one, and the candidates and their rooms are its
 pub record IsMoves (x : Moves) : Type 0 where
   pub setting : IsSetting x.setting
   pub listed : x.candidates.now ≡ listed_in x.setting.mapper.lab.now x.setting.mapper.free.now x.setting.mapper.wiring.now
+  pub rooms : x.rooms.now ≡ map (map (room_of x.setting.mapper.lab.now)) x.candidates.now
 
--- the candidates, the ends, the interfaces by node and the tables are those of the wiring on what is free of the lab
+-- the candidates, their rooms, the ends, the interfaces by node and the tables are those of the wiring on what is free of the lab
 pub record IsPrepared (lab : Lab) (free : Free) (w : Wiring) (x : Prepared) : Type 0 where
   pub candidates : x.candidates ≡ listed_in lab free w
+  pub rooms : x.rooms ≡ map (map (room_of lab)) x.candidates
   pub ends : x.ends.items ≡ ends_of w.segments
   pub ifaces : IsIndex lab x.ifaces
   pub table : IsTableOf lab w x.table

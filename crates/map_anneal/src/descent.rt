@@ -43,15 +43,14 @@ fn cheaper_move_of(
     ensures none { IfOk result (λ yes. yes ≡ false → NoMove (sought_of moves.now rule.now.number) at.old.board.mapping node) }
     ensures row { OnOk result (IsRow (sought_of moves.now rule.now.number) at.old.board.mapping node row.new) }
 {
-    let listed = moves.candidates;
     let below = u128::from(at.cost);
-    for number in 0..listed.count(node) {
-        if !row.is_known(number) {
-            if at.move_if(alloc, moves, rule, node, listed.at(node, number), below)? {
-                return Ok(true);
-            }
-            row.note(number, at.weighed);
+    let mut number = row.unknown_from(0);
+    while number < row.len() {
+        if at.move_if(alloc, moves, rule, node, number, below)? {
+            return Ok(true);
         }
+        row.note(number, at.weighed);
+        number = row.unknown_from(number + 1);
     }
     Ok(false)
 }
@@ -166,13 +165,13 @@ fn cheaper_exchange_of(
         → NoExchange (sought_of moves.now rule.now.number) at.old.board.mapping first u) }
     ensures row { OnOk result (IsPairs (sought_of moves.now rule.now.number) at.old.board.mapping first row.new) }
 {
-    for second in first + 1..moves.candidates.len() {
-        if !row.is_known(second) {
-            if cheaper_exchange(alloc, moves, rule, at, first, second)? {
-                return Ok(true);
-            }
-            row.note(second, at.weighed);
+    let mut second = row.unknown_from(first + 1);
+    while second < row.len() {
+        if cheaper_exchange(alloc, moves, rule, at, first, second)? {
+            return Ok(true);
         }
+        row.note(second, at.weighed);
+        second = row.unknown_from(second + 1);
     }
     Ok(false)
 }

@@ -7,14 +7,14 @@ ghost use Rattle.map_anneal.specs.Searches.{sought_of, IsMoves};
 ghost use Rattle.map_anneal.specs.Untouched.{IsTouched, IsUntouched};
 ghost use Rattle.map_anneal.specs.Noted.{IsKnown};
 ghost use Rattle.map_anneal.specs.Weighed.{ArePairs, AreRows};
-ghost use Rattle.node_maps.specs.Marked.{marks_of};
+ghost use Rattle.node_maps.specs.Marked.{marked_numbers, marked_of};
 
 use crate::moves::Moves;
 use crate::notes::Notes;
 use crate::step::{is_marked, touched_classes, touched_nodes};
 use cost_rule::StepRule;
-use lab_base::Memory;
-use node_maps::Marked;
+use lab_base::{Items, Memory};
+use node_maps::{Marked, marked_numbers};
 use std::alloc::Global;
 use virt_topo::{Asks, Mapping, Wiring};
 
@@ -54,6 +54,8 @@ fn is_touched(
 pub(crate) struct Touched {
     nodes: Vec<bool>,
     virts: Vec<bool>,
+    /// The numbers of the virtual nodes.
+    numbers: Items<usize>,
     candidates: Marked,
 }
 
@@ -91,14 +93,17 @@ impl Touched {
         requires last { IsNodeMap (sought_of moves.now _rule.now.number) last.now }
         requires next { IsNodeMap (sought_of moves.now _rule.now.number) next.now }
         ensures touched { IfOk result (IsTouched moves.now.setting.mapper.lab.now moves.now.setting.mapper.wiring.now last.now next.now) }
-        ensures candidates { IfOk result (λ touched. touched.candidates ≡ map (marks_of touched.nodes.items) moves.now.candidates.now) }
+        ensures numbers { IfOk result (λ touched. touched.numbers ≡ marked_numbers touched.virts.items) }
+        ensures candidates { IfOk result (λ touched. touched.candidates ≡ map (marked_of touched.nodes.items) moves.now.candidates.now) }
     {
         let nodes = touched_nodes(alloc, moves, _rule, last, next)?;
         let virts = touched_virts(alloc, moves.setting.mapper.wiring, &nodes, last, next)?;
+        let numbers = marked_numbers(alloc, &virts)?;
         let candidates = moves.candidates.marked(alloc, &nodes)?;
         Ok(Touched {
             nodes,
             virts,
+            numbers,
             candidates,
         })
     }
@@ -127,7 +132,7 @@ fn follow_rows(
     requires last { IsNodeMap (sought_of _moves.now _rule.now.number) _last.now }
     requires next { IsNodeMap (sought_of _moves.now _rule.now.number) _next.now }
     requires touched { IsTouched _moves.now.setting.mapper.lab.now _moves.now.setting.mapper.wiring.now _last.now _next.now touched.now }
-    requires candidates { touched.now.candidates ≡ map (marks_of touched.now.nodes.items) _moves.now.candidates.now }
+    requires candidates { touched.now.candidates ≡ map (marked_of touched.now.nodes.items) _moves.now.candidates.now }
     requires rows { AreRows (sought_of _moves.now _rule.now.number) _last.now rows.old.items }
     ensures { AreRows (sought_of _moves.now _rule.now.number) _next.now rows.new.items }
 {
@@ -150,12 +155,13 @@ fn follow_pairs(
     requires last { IsNodeMap (sought_of _moves.now _rule.now.number) _last.now }
     requires next { IsNodeMap (sought_of _moves.now _rule.now.number) _next.now }
     requires touched { IsTouched _moves.now.setting.mapper.lab.now _moves.now.setting.mapper.wiring.now _last.now _next.now touched.now }
+    requires numbers { touched.now.numbers ≡ marked_numbers touched.now.virts.items }
     requires pairs { ArePairs (sought_of _moves.now _rule.now.number) _last.now pairs.old.items }
     ensures { ArePairs (sought_of _moves.now _rule.now.number) _next.now pairs.new.items }
 {
     for virt in 0..pairs.len() {
         let all = touched.has(virt);
-        pairs[virt].forget(all, &touched.virts);
+        pairs[virt].forget(all, touched.numbers.as_slice());
     }
 }
 

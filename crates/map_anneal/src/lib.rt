@@ -12,7 +12,7 @@ mod tried;
 mod walk;
 
 pub use descent::{descend, descend_by};
-pub use moves::{Moves, candidate};
+pub use moves::Moves;
 pub use prepared::Prepared;
 pub use search::Priced;
 pub use walk::{anneal, anneal_by};

@@ -1,9 +1,10 @@
 // Moves and exchanges of virtual nodes in the map at hand.
-ghost use Rattle.std.specs.Prelude.{◌≡◌, ◌<◌, ◌≤◌, ◌%◌, IfOk, OnOk, IsTrue, true, false, List, [], Some, Contains, length, slice_index_or, slice_set};
+ghost use Rattle.std.specs.Prelude.{◌≡◌, ◌<◌, ◌≤◌, ◌↔◌, IfOk, IfSome, IsSome, OnOk, IsTrue, true, false, List, [], Some, Contains, length, slice_index_or, slice_set};
 ghost use Rattle.lab_base.specs.declared.ids.IfaceId.{IfaceId as IfaceIdSeen};
 ghost use Rattle.virt_topo.specs.declared.mapping.Mapping.{Mapping as MappingSeen};
 ghost use Rattle.lab_model.specs.Shapes.{Place as PlaceSeen};
 ghost use Rattle.lab_model.specs.Rules.{no_place, place_at};
+ghost use Rattle.cost_rule.specs.Parts.{cost_of_parts, AreParts};
 ghost use Rattle.node_maps.specs.NodeMaps.{candidates, node_map, plugs_of};
 ghost use Rattle.map_board.specs.Boards.{IsLaid, IsPlanned, Was};
 ghost use Rattle.map_board.specs.Seated.{placed_at};
@@ -16,8 +17,8 @@ use crate::search::place_of;
 use crate::tried::Tried;
 use cost_rule::StepRule;
 use lab_base::{Memory, NodeId};
-use map_board::{Board, Setting};
-use node_maps::{Candidates, Place};
+use map_board::{Board, Foretold, Setting};
+use node_maps::{Candidates, Place, Rooms};
 use std::alloc::Global;
 use virt_topo::Mapping;
 
@@ -26,16 +27,8 @@ use virt_topo::Mapping;
 pub struct Moves<'a> {
     pub setting: Setting<'a>,
     pub candidates: &'a Candidates,
-}
-
-/// The candidate of a virtual node that a word names.
-pub fn candidate(listed: &Candidates, node: usize, word: u32) -> Place
-    requires within { node < length listed.now }
-    requires some { 0 < length (slice_index_or listed.now node []) }
-    ensures named { result ≡ slice_index_or (slice_index_or listed.now node []) (word % length (slice_index_or listed.now node [])) no_place }
-    ensures among { Contains (slice_index_or listed.now node []) result }
-{
-    listed.at(node, word as usize % listed.count(node))
+    /// The rooms of the candidates.
+    pub rooms: &'a Rooms,
 }
 
 /// The node of a virtual node.
@@ -76,8 +69,20 @@ impl Moves<'_> {
     }
 }
 
+/// Whether a move that is told is told to cost at least that.
+fn is_told_dear(rule: &StepRule, told: &Option<Foretold>, below: u128) -> bool
+    requires fit { IfSome told.now (λ told. AreParts told.parts) }
+    ensures some { IsTrue result → IsSome told.now }
+    ensures dear { IfSome told.now (λ told. IsTrue result ↔ below ≤ cost_of_parts rule.now.number told.parts) }
+{
+    match told {
+        Some(told) => u128::from(rule.ask_parts(told.parts)) >= below,
+        None => false,
+    }
+}
+
 impl Tried {
-    /// Whether a node map of these places, whose plugs are planned, is known to cost at least that.
+    /// Whether a node map of these places, whose plugs are planned, is known to cost at least that. One that was told to cost less isn't asked about.
     fn is_dear(
         &self,
         moves: &Moves,
@@ -85,6 +90,7 @@ impl Tried {
         _first: NodeId,
         _second: NodeId,
         below: u128,
+        told: bool,
     ) -> bool
         requires moves { IsMoves moves.now }
         requires laid { IsLaid moves.now.setting self.now.board }
@@ -100,6 +106,9 @@ impl Tried {
     {
         // for the prover: it tells what every lab keeps
         let _kept = moves.setting.mapper.lab.range();
+        if told {
+            return false;
+        }
         match self.board.foreseen(&moves.setting) {
             Some(parts) => u128::from(rule.ask_parts(parts)) >= below,
             None => false,
@@ -107,7 +116,7 @@ impl Tried {
     }
 
     /// Settles places that differ from those of a node map on two nodes alone, where the map is feasible and costs less
-    /// than that; else the plugs stay.
+    /// than that; else the plugs stay. The rule isn't asked again about a move that was told to cost less.
     fn settle_if(
         &mut self,
         alloc: Global,
@@ -116,6 +125,7 @@ impl Tried {
         first: (NodeId, usize),
         second: (NodeId, usize),
         below: u128,
+        told: bool,
     ) -> Result<bool, Memory>
         requires moves { IsMoves moves.now }
         requires laid { IsLaid moves.now.setting self.old.board }
@@ -152,7 +162,7 @@ impl Tried {
             self.weighed = true;
             return Ok(false);
         }
-        if self.is_dear(moves, rule, first.0, second.0, below) {
+        if self.is_dear(moves, rule, first.0, second.0, below, told) {
             self.weighed = true;
             return Ok(false);
         }
@@ -175,8 +185,8 @@ impl Tried {
         Ok(true)
     }
 
-    /// Moves a virtual node to another of its candidates, where the map is feasible and costs less than that: it is seated there, and
-    /// back where that comes to nothing.
+    /// Moves a virtual node to another of its candidates, where the map is feasible and costs less than that: where the move isn't told to cost
+    /// as much, it is seated there, and back where that comes to nothing.
     fn go_if(
         &mut self,
         alloc: Global,
@@ -207,8 +217,21 @@ impl Tried {
         let old = place_of(self.board.mapping.places.as_slice(), node);
         let soft = self.board.parts(&setting).soft;
         let counted = self.board.counted(&setting, node);
-        self.board.seat(alloc, &setting, node, place);
-        if self.settle_if(alloc, moves, rule, (to, node), (from, node), below)? {
+        let told = self.board.foretell(&setting, node, &place);
+        if is_told_dear(rule, &told, below) {
+            self.weighed = true;
+            return Ok(false);
+        }
+        self.board.seat_told(alloc, &setting, node, place, told);
+        if self.settle_if(
+            alloc,
+            moves,
+            rule,
+            (to, node),
+            (from, node),
+            below,
+            told.is_some(),
+        )? {
             return Ok(true);
         }
         self.board
@@ -216,7 +239,7 @@ impl Tried {
         Ok(false)
     }
 
-    /// Moves a virtual node to another of its candidates, where the map is feasible and costs less than that. One that stays, or that
+    /// Moves a virtual node to its candidate of a number, where the map is feasible and costs less than that. One that stays, or that
     /// finds the node full, is not seated.
     pub fn move_if(
         &mut self,
@@ -224,33 +247,39 @@ impl Tried {
         moves: &Moves,
         rule: &StepRule,
         node: usize,
-        place: Place,
+        number: usize,
         below: u128,
     ) -> Result<bool, Memory>
         requires moves { IsMoves moves.now }
         requires tried { IsTried moves.now rule.now.number self.old }
         requires within { node < length (choices (sought_of moves.now rule.now.number)) }
-        requires among { Contains (candidates_at (sought_of moves.now rule.now.number) node) place }
+        requires number { number < length (candidates_at (sought_of moves.now rule.now.number) node) }
         ensures tried { OnOk result (IsTried moves.now rule.now.number self.new) }
         ensures map { IfOk result (λ yes. yes ≡ true
-            → moved (sought_of moves.now rule.now.number) self.old.board.mapping node place ≡ Some self.new.board.mapping) }
+            → moved (sought_of moves.now rule.now.number) self.old.board.mapping node
+            (slice_index_or (candidates_at (sought_of moves.now rule.now.number) node) number no_place) ≡ Some self.new.board.mapping) }
         ensures below { IfOk result (λ yes. yes ≡ true → self.new.cost < below) }
         ensures same { IfOk result (λ yes. yes ≡ false → self.new.board.mapping ≡ self.old.board.mapping) }
         ensures same_cost { IfOk result (λ yes. yes ≡ false → self.new.cost ≡ self.old.cost) }
         ensures dear { IfOk result (λ yes. yes ≡ false → (m : MappingSeen)
-            → moved (sought_of moves.now rule.now.number) self.old.board.mapping node place ≡ Some m → below ≤ price (sought_of moves.now rule.now.number) m) }
+            → moved (sought_of moves.now rule.now.number) self.old.board.mapping node
+            (slice_index_or (candidates_at (sought_of moves.now rule.now.number) node) number no_place) ≡ Some m
+            → below ≤ price (sought_of moves.now rule.now.number) m) }
         ensures weighed { IfOk result (λ yes. yes ≡ false → self.new.weighed ≡ true
-            → IsNoLess (sought_of moves.now rule.now.number) below (slice_set self.old.board.mapping.places node place)) }
+            → IsNoLess (sought_of moves.now rule.now.number) below (slice_set self.old.board.mapping.places node
+            (slice_index_or (candidates_at (sought_of moves.now rule.now.number) node) number no_place))) }
     {
-        let setting = moves.setting;
-        let from = place_of(self.board.mapping.places.as_slice(), node);
         self.weighed = false;
-        if place == from {
-            return Ok(u128::from(self.cost) < below);
-        }
-        if self.board.is_full(&setting, node, place) {
+        if self
+            .board
+            .is_full(&moves.setting, node, moves.rooms.at(node, number))
+        {
             self.weighed = true;
             return Ok(false);
+        }
+        let place = moves.candidates.at(node, number);
+        if place == place_of(self.board.mapping.places.as_slice(), node) {
+            return Ok(u128::from(self.cost) < below);
         }
         let yes = self.go_if(alloc, moves, rule, node, place, below)?;
         Ok(yes)
@@ -311,7 +340,15 @@ impl Tried {
         let one = node_of(self.board.mapping.places.as_slice(), first);
         let other = node_of(self.board.mapping.places.as_slice(), second);
         self.exchange(alloc, moves, first, second);
-        if self.settle_if(alloc, moves, rule, (one, second), (other, first), below)? {
+        if self.settle_if(
+            alloc,
+            moves,
+            rule,
+            (one, second),
+            (other, first),
+            below,
+            false,
+        )? {
             return Ok(true);
         }
         self.exchange(alloc, moves, first, second);
@@ -341,9 +378,11 @@ impl Tried {
             → named (sought_of moves.now rule.now.number) self.old.board.mapping first second ≡ Some m
             → below ≤ price (sought_of moves.now rule.now.number) m) }
     {
-        let node = first as usize % moves.candidates.len();
-        let place = candidate(moves.candidates, node, second);
-        let yes = self.move_if(alloc, moves, rule, node, place, below)?;
+        // for the prover: it tells what every lab keeps
+        let _kept = moves.setting.mapper.lab.range();
+        let node = moves.rooms.virt(first);
+        let number = moves.rooms.number(node, second);
+        let yes = self.move_if(alloc, moves, rule, node, number, below)?;
         Ok(yes)
     }
 }

@@ -7,7 +7,7 @@ ghost use Rattle.map_anneal.specs.Searches.{IsPrepared, IsMoves};
 use crate::moves::Moves;
 use lab_base::Memory;
 use map_board::{Setting, Table};
-use node_maps::{Candidates, End, Mapper, NodeIfaces, candidates, ends_of};
+use node_maps::{Candidates, End, Mapper, NodeIfaces, Rooms, candidates, ends_of};
 use phys_lab::{Free, Lab};
 use std::alloc::Global;
 use virt_topo::Wiring;
@@ -16,6 +16,8 @@ use virt_topo::Wiring;
 #[derive(Drop)]
 pub struct Prepared {
     pub candidates: Candidates,
+    /// The rooms of the candidates.
+    pub(crate) rooms: Rooms,
     /// The ends of the wiring, in order.
     pub ends: Vec<End>,
     pub(crate) ifaces: NodeIfaces,
@@ -30,11 +32,13 @@ impl Prepared {
         ensures { IfOk result (IsPrepared lab.now free.now wiring.now) }
     {
         let candidates = candidates(alloc, lab, free, wiring)?;
+        let rooms = candidates.rooms(alloc, lab)?;
         let ends = ends_of(alloc, wiring.segments.as_slice())?;
         let ifaces = NodeIfaces::of_lab(alloc, lab)?;
         let table = Table::of(alloc, lab, wiring, &ends)?;
         Ok(Prepared {
             candidates,
+            rooms,
             ends,
             ifaces,
             table,
@@ -64,6 +68,7 @@ impl Prepared {
                 table: &self.table,
             },
             candidates: &self.candidates,
+            rooms: &self.rooms,
         }
     }
 }

@@ -238,6 +238,11 @@ not_joined lab free w m b given test off =
     absurd (cc both))
 
 -- THE PLUGS THAT ARE PLANNED
+pub homed_ends : (x : Setting) (homes : List ℕ) → IsSetting x → length homes ≡ length x.mapper.wiring.now.nodes → All (λ (e : End). e.node < length homes) x.mapper.ends.now
+homed_ends x homes is count =
+    subst (λ (l : List End). All (λ (e : End). e.node < length homes) l) (sym is.mapper.ends)
+    (subst (λ (n : ℕ). All (λ (e : End). e.node < n) (ends_of x.mapper.wiring.now.segments)) (sym count) (on_nodes x.mapper.wiring.now is.mapper.sound))
+
 pub placed_ends : (x : Setting) (places : List Place) → IsSetting x → length places ≡ length x.mapper.wiring.now.nodes → All (λ (e : End). e.node < length places) x.mapper.ends.now
 placed_ends x places is count =
     subst (λ (l : List End). All (λ (e : End). e.node < length places) l) (sym is.mapper.ends)
@@ -263,7 +268,7 @@ numbers_within n p (e ∷ es) = by (p e) (numbers_within (n + 1) p es)
 pub numbers_in : (p : End → Bool) (es : List End) → All (λ (k : ℕ). k < length es) (numbers_of 0 p es)
 numbers_in p es k d lt = let less = numbers_within 0 p es k d lt in omega (arith, less)
 
-changes_each : (On : Change → Type 0) (rows : List EndRow) (numbers : List ℕ) (plugs : List IfaceId)
+pub changes_each : (On : Change → Type 0) (rows : List EndRow) (numbers : List ℕ) (plugs : List IfaceId)
     → ((j k : ℕ) (d : ℕ) (i : IfaceId) → j < length numbers → k < length plugs → On (record { end = get_or numbers j d; row = get_or rows (get_or numbers j d) no_row; to = get_or plugs k i }))
     → All On (changes_of rows numbers plugs)
 changes_each On rows [] plugs each = λ k d lt. absurd (omega (arith, lt))

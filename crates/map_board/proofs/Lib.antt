@@ -16,4 +16,7 @@ pub mod SettledLaws
 mod TieLaws
 mod JointLaws
 mod OrderedPlans
+mod LoneLaws
 mod SoftRows
+mod OwnEnds
+mod ListedLaws

@@ -1,9 +1,11 @@
 -- The members of classes, counted by class and type.
-use Rattle.std.proofs.Common.{◌≡◌, ◌<◌, ◌≤◌, ◌+◌, ◌*◌, ◌∙◌, ◌∷◌, ◌++◌, [], ℕ, List, length, take, drop, get_or, Bool, true, false, cond, eqb, ◌||◌, Option, Some, None, refl, ap, sym, subst, arith}
-use Rattle.std.specs.Prelude.{nat_lt, count_by, ◌&&◌}
+use Rattle.std.proofs.Common.{◌≡◌, ◌<◌, ◌≤◌, ◌+◌, ◌*◌, ◌/◌, ◌∙◌, ◌∷◌, ◌++◌, [], ℕ, List, length, take, drop, get_or, Bool, true, false, cond, eqb, ◌||◌, Option, Some, None, refl, ap, sym, subst, arith}
+use Rattle.std.specs.Prelude.{nat_lt, count_by, not, ◌&&◌}
 use Rattle.std.specs.Option.{option_map, IfSome}
-use Rattle.std.specs.List.{list_any}
+use Rattle.std.specs.List.{list_any, position_or_len}
 use Rattle.std.proofs.lemmas.Bool.{and_parts, leb-true, lt-ltb, ltb-true, eq-eqb, eqb-true, ne_eqb}
+use Rattle.std.proofs.lemmas.Bool.Decides.{nat_tests}
+use Rattle.std.proofs.lemmas.Nat.{div-mul-add}
 use Rattle.std.proofs.lemmas.Option.{same_Some}
 use Rattle.std.proofs.lemmas.List.{drop_all, drop_more}
 use Rattle.std.proofs.lemmas.List.Sums.{sum_by-cons, sum_by-append}
@@ -21,11 +23,12 @@ use Rattle.virt_topo.specs.Soundness.{IsSound, limits_class}
 use Rattle.virt_topo.specs.Wirings.{virt_at, no_virt}
 use Rattle.virt_topo.proofs.CableLaws.{sound_limits}
 use Rattle.lab_model.specs.Shapes.{Place}
-use Rattle.lab_model.specs.Rules.{class_at, no_class, no_place, is_member, place_at}
+use Rattle.lab_model.specs.Rules.{class_at, no_class, no_place, is_asked, is_member, place_at}
 use Rattle.cost_rule.specs.Cost.{types_of}
 use Rattle.cost_rule.specs.Counting.{types_from}
-use Rattle.map_board.specs.Seated.{placed_at}
-use Rattle.map_board.specs.Members.{members_at, type_place, class_place, asked_place, one_at}
+use Rattle.map_board.specs.declared.members.Members.{Members}
+use Rattle.map_board.specs.Seated.{kind_soft, asked_soft, placed_at}
+use Rattle.map_board.specs.Members.{AreMembers, members_at, type_place, class_place, asked_place, one_at}
 use Rattle.map_board.proofs.SeatLaws.{types_same, types_at, types_set}
 
 abbrev one_if : Bool → ℕ
@@ -236,3 +239,84 @@ members_step w m d v kind lt few =
 
 pub members_end : (w : Wiring) (m : Mapping) (d v : ℕ) (kind : List ℕ) → length w.nodes ≤ v → count_by (same_name kind) (types_from w m d v) ≡ 0
 members_end w m d v kind le = (λ j. count_by (same_name kind) (types_of d (drop_all v w.nodes le j) (drop v m.places)))
+
+-- WHAT A CLASS COSTS LESS ONCE A MEMBER HAS ANOTHER TYPE
+-- one that passes is found
+found : {X : Type 0} (test : X → Bool) (xs : List X) → list_any test xs ≡ true → position_or_len test xs < length xs
+found test [] any = absurd (cc any)
+found test (x ∷ xs) any = by (test x) any (found test xs)
+  where
+    by : (b : Bool) → (b || list_any test xs) ≡ true → (list_any test xs ≡ true → position_or_len test xs < length xs)
+        → cond (not b) (1 + position_or_len test xs) 0 < length (x ∷ xs)
+    by true any later = omega arith
+    by false any later = let rest = later any in omega (arith, rest)
+
+-- a type that a class lists has a place
+listed : (w : Wiring) (c : ℕ) (kind : List ℕ) → list_any (λ t. same_name t kind) (class_at w c).types ≡ true → class_place w c kind ≡ None → ⊥
+listed w c kind any none =
+    let test : List ℕ → Bool = λ t. same_name t kind in
+    let types = (class_at w c).types in
+    let here : class_place w c kind ≡ Some (c * MAX_TYPES + position_or_len test types) =
+    ap (λ (b : Bool). option_map (λ (k : ℕ). c * MAX_TYPES + k) (cond b (Some (position_or_len test types)) None)) (lt-ltb (position_or_len test types) (length types) (found test types any)) in
+    absurd (cc (here, none))
+
+-- a virtual node that is counted nowhere has no class
+pub uncounted : (w : Wiring) (m : Mapping) (asks : Asks) (kind : List ℕ) → is_asked w asks kind ≡ true → asked_place w asks kind ≡ None → asked_soft w m asks kind ≡ 0
+uncounted w m (Plain t) kind asked none = refl
+uncounted w m (InClass c) kind asked none = by (nat_lt c (length w.classes)) none
+  where
+    by : (b : Bool) → cond b (class_place w c kind) None ≡ None → cond b (kind_soft w m c kind) 0 ≡ 0
+    by false none = refl
+    by true none = absurd (listed w c kind asked none)
+
+-- the class of a place
+class_of : (w : Wiring) (c n : ℕ) (kind : List ℕ) → IsSound w → c < length w.classes → class_place w c kind ≡ Some n → n / MAX_TYPES ≡ c
+class_of w c n kind sound lt is =
+    let few = few_types w c sound lt in
+    let x = there w c n kind is in
+    let within = x.within in
+    ap (λ (k : ℕ). k / MAX_TYPES) x.at ∙ div-mul-add c MAX_TYPES x.place (omega (arith, few, within))
+
+one_before : (k n : ℕ) → k + 1 ≡ n → not (nat_lt 0 k) ≡ eqb n 1
+one_before k n is = grind (arith, nat_tests)
+
+-- no member has the type any more, where one had it
+soft_left : (w : Wiring) (m : Mapping) (v n : ℕ) (p : Place) (x : IsAskedAt w (virt_at w v).asks (place_at m v).1 n) → v < length w.nodes → v < length m.places
+    → same_name (place_at m v).1 p.1 ≡ false
+    → asked_soft w (placed_at m v p) (virt_at w v).asks (place_at m v).1
+    ≡ cond (nat_lt (class_at w x.class).weight 1000 && eqb (members_at w m x.class (place_at m v).1) 1) (class_at w x.class).weight 0
+soft_left w m v n p x lt few other =
+    let kind = (place_at m v).1 in
+    let asks = (virt_at w v).asks in
+    let weight = (class_at w x.class).weight in
+    let went = members_went w m v p x.class kind lt few in
+    let own = counts_own x.class kind asks x.asked in
+    let gone : counts x.class kind asks p.1 ≡ 0 = (λ j. counts x.class kind (x.asked j) p.1) ∙ (λ j. one_if (eq-eqb x.class x.class refl j && other j)) in
+    let none : not (list_any (same_name kind) (types_of x.class w.nodes (placed_at m v p).places)) ≡ eqb (members_at w m x.class kind) 1 =
+    ap not (any_counted kind (types_of x.class w.nodes (placed_at m v p).places)) ∙ one_before _ _ (omega (arith, went, own, gone)) in
+    (λ j. asked_soft w (placed_at m v p) (x.asked j) kind) ∙ ap (λ (b : Bool). cond b (kind_soft w (placed_at m v p) x.class kind) 0) (lt-ltb x.class (length w.classes) x.within)
+    ∙ ap (λ (b : Bool). cond (nat_lt weight 1000 && b) weight 0) none
+
+-- virtual node v is counted at place n
+pub record IsCounted (w : Wiring) (m : Mapping) (x : Members) (v n : ℕ) : Type 0 where
+  pub class : n / MAX_TYPES < length w.classes
+  pub within : n < length x.counts.items
+  pub left : (p : Place) → same_name (place_at m v).1 p.1 ≡ false → asked_soft w (placed_at m v p) (virt_at w v).asks (place_at m v).1
+      ≡ cond (nat_lt (class_at w (n / MAX_TYPES)).weight 1000 && eqb (get_or x.counts.items n 0) 1) (class_at w (n / MAX_TYPES)).weight 0
+
+pub counted : (w : Wiring) (m : Mapping) (x : Members) (v n : ℕ) → IsSound w → AreMembers w m x → v < length w.nodes → length m.places ≡ length w.nodes → get_or x.own.items v None ≡ Some n
+    → IsCounted w m x v n
+counted w m x v n sound are lt all is =
+    let kind = (place_at m v).1 in
+    let here = asked_there w (virt_at w v).asks kind n (sym (are.own v lt) ∙ is) in
+    let class = class_of w here.class n kind sound here.within here.place in
+    let count = are.each here.class n kind here.within here.place in
+    let room = are.room in
+    let within = class_within w here.class n kind sound here.within here.place in
+    let c_lt = here.within in
+    record {
+      class = omega (arith, class, c_lt);
+      within = omega (arith, room, within);
+      left = λ p other. soft_left w m v n p here lt (omega (arith, lt, all)) other
+          ∙ (λ j. cond (nat_lt (class_at w (sym class j)).weight 1000 && eqb (sym count j) 1) (class_at w (sym class j)).weight 0);
+    }

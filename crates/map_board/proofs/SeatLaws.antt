@@ -134,6 +134,27 @@ soft_after lab w m v p lt few =
     let classes = classes_after w m v p (virt_at w v).asks lt few refl in
     omega (arith, nodes, classes)
 
+-- where the type stays
+types_alike : (c : ℕ) (vs : List VirtNode) (places : List Place) (v : ℕ) (p : Place) → (get_or places v no_place).1 ≡ p.1 → types_of c vs (set places v p) ≡ types_of c vs places
+types_alike c [] places v p same = refl
+types_alike c (x ∷ vs) [] v p same = refl
+types_alike c (x ∷ vs) (q ∷ places) zero p same = ap (λ (t : List ℕ). cond (is_member c x.asks) (t ∷ types_of c vs places) (types_of c vs places)) (sym same)
+types_alike c (x ∷ vs) (q ∷ places) (suc v) p same = ap (λ l. cond (is_member c x.asks) (q.1 ∷ l) l) (types_alike c vs places v p same)
+
+asked_alike : (w : Wiring) (m : Mapping) (v : ℕ) (p : Place) (asks : Asks) (kind : List ℕ) → (get_or m.places v no_place).1 ≡ p.1 → asked_soft w (placed_at m v p) asks kind ≡ asked_soft w m asks kind
+asked_alike w m v p (Plain t) kind same = refl
+asked_alike w m v p (InClass c) kind same =
+    ap (λ (l : List (List ℕ)). cond (nat_lt c (length w.classes)) (cond (nat_lt (class_at w c).weight 1000 && not (list_any (same_name kind) l)) (class_at w c).weight 0) 0)
+    (types_alike c w.nodes m.places v p same)
+
+pub soft_alike : (lab : Lab) (w : Wiring) (m : Mapping) (v : ℕ) (p : Place) → v < length w.nodes → v < length m.places → (get_or m.places v no_place).1 ≡ p.1
+    → soft lab w (placed_at m v p) + node_soft lab w m v ≡ soft lab w m + node_soft lab w (placed_at m v p) v
+soft_alike lab w m v p lt few same =
+    let law = soft_after lab w m v p lt few in
+    let lost = asked_alike w m v p (virt_at w v).asks (get_or m.places v no_place).1 same in
+    let kinds = ap (asked_soft w m (virt_at w v).asks) same in
+    omega (arith, law, lost, kinds)
+
 -- NODES IN USE
 
 abbrev guests : List ℕ → ℕ → ℕ
@@ -264,6 +285,38 @@ guest_more places v p lt apart =
     let here : ◌≡◌ {A = ℕ} (one_if (eqb (get_or (set places v p) v no_place).0.0 n)) 1 = ap (λ (q : Place). one_if (eqb q.0.0 n)) (get_or-set_same places v p no_place lt) ∙ ap one_if (eq-eqb n n refl) in
     let gone : ◌≡◌ {A = ℕ} (one_if (eqb (get_or places v no_place).0.0 n)) 0 = ap one_if (ne_eqb (get_or places v no_place).0.0 n apart) in
     omega (arith, before, after, same, here, gone)
+
+-- and the node that it leaves has one guest less
+pub guest_less : (places : List Place) (v : ℕ) (p : Place) → v < length places → (get_or places v no_place).0.0 ≢ p.0.0
+    → guests_at (set places v p) (get_or places v no_place).0.0 + 1 ≡ guests_at places (get_or places v no_place).0.0
+guest_less places v p lt apart =
+    let n = (get_or places v no_place).0.0 in
+    let before = guest_left places v n lt in
+    let after = guest_left (set places v p) v n (omega (arith, lt, length-set places v p)) in
+    let same : ◌≡◌ {A = ℕ} (guests (others (set places v p) v) n) (guests (others places v) n) = ap (λ (l : List ℕ). guests l n) (others_set places v p) in
+    let gone : ◌≡◌ {A = ℕ} (one_if (eqb (get_or (set places v p) v no_place).0.0 n)) 0 = ap (λ (q : Place). one_if (eqb q.0.0 n)) (get_or-set_same places v p no_place lt) ∙ ap one_if (ne_eqb p.0.0 n (λ e. apart (sym e))) in
+    let own : ◌≡◌ {A = ℕ} (one_if (eqb n n)) 1 = ap one_if (eq-eqb n n refl) in
+    omega (arith, before, after, same, gone, own)
+
+-- as many nodes are in use once a virtual node that is alone on its node goes to one that is empty
+pub used_alone : (places : List Place) (v : ℕ) (p : Place) → v < length places → guests_at places (get_or places v no_place).0.0 ≡ 1 → guests_at places p.0.0 ≡ 0
+    → different same_node (nodes_of (set places v p)) ≡ different same_node (nodes_of places)
+used_alone places v p lt alone empty =
+    let a = (get_or places v no_place).0.0 in
+    let b = p.0.0 in
+    let out = others places v in
+    let left_a = guest_left places v a lt in
+    let left_b = guest_left places v b lt in
+    let own : ◌≡◌ {A = ℕ} (one_if (eqb a a)) 1 = ap one_if (eq-eqb a a refl) in
+    let none_a : guests out a ≡ 0 = omega (arith, left_a, own, alone) in
+    let none_b : guests out b ≡ 0 = omega (arith, left_b, empty) in
+    let flag_a : ◌≡◌ {A = ℕ} (one_if (eqb (guests out a) 0)) 1 = ap one_if (eq-eqb (guests out a) 0 none_a) in
+    let flag_b : ◌≡◌ {A = ℕ} (one_if (eqb (guests out b) 0)) 1 = ap one_if (eq-eqb (guests out b) 0 none_b) in
+    let whole = used_left places v lt in
+    let whole_after = used_left (set places v p) v (omega (arith, lt, length-set places v p)) in
+    let same : ◌≡◌ {A = ℕ} (different same_node (others (set places v p) v) + one_if (eqb (guests (others (set places v p) v) (get_or (set places v p) v no_place).0.0) 0)) (different same_node out + one_if (eqb (guests out b) 0)) =
+    (λ j. different same_node (others_set places v p j) + one_if (eqb (guests (others_set places v p j) (get_or-set_same places v p no_place lt j).0.0) 0)) in
+    omega (arith, whole, whole_after, same, flag_a, flag_b)
 
 pub guests_went : (n : ℕ) (places : List Place) (v : ℕ) (p : Place) (g h k : List ℕ) (x y z : ℕ) → v < length places → Went n places v p g h k x y z
     → (i : ℕ) → i < n → get_or k i 0 ≡ guests_at (set places v p) i

@@ -7,4 +7,5 @@ pub mod Seated
 pub mod Unmade
 pub mod Boards
 pub mod Planned
+pub mod Foretold
 pub mod Chosen

@@ -1,5 +1,5 @@
 -- The counts kept by place of a mapping.
-use Rattle.std.specs.Prelude.{◌≡◌, ◌<◌, ◌≤◌, ◌==◌, ◌&&◌, not, ℕ, List, length, nat_lt, count_by, slice_index_or, slice_set, if◌then◌else◌}
+use Rattle.std.specs.Prelude.{◌≡◌, ◌<◌, ◌≤◌, ◌==◌, ◌&&◌, not, ℕ, List, length, nat_lt, count_by, map, slice_index_or, slice_set, if◌then◌else◌}
 use Rattle.std.specs.List.{list_any}
 use Rattle.lab_base.specs.Names.{same_name}
 use Rattle.phys_lab.specs.Labs.{Lab}
@@ -25,8 +25,9 @@ IsCrowded lab places v = number_of (node_at lab (slice_index_or places v no_plac
 abbrev pub IsFull : Lab → List Place → ℕ → Place → Type 0
 IsFull lab places v p = ((slice_index_or places v no_place).0.0 ≡ p.0.0 → ⊥) × (number_of (node_at lab p.0).types p.1 ≤ guests_at places p.0.0)
 
--- by node how many virtual nodes are on it; how many nodes are in use; by class and type how many members have it; what is soft
+-- by virtual node its node; by node how many virtual nodes are on it; how many nodes are in use; by class and type how many members have it; what is soft
 pub record IsSeated (lab : Lab) (w : Wiring) (m : Mapping) (x : Seats) : Type 0 where
+  pub homes : x.homes.items ≡ map (λ p. p.0.0) m.places
   pub one_each : length x.guests.items ≡ length lab.nodes
   pub guests : (n : ℕ) → n < length lab.nodes → slice_index_or x.guests.items n 0 ≡ guests_at m.places n
   pub nodes : x.nodes ≡ nodes_in_use m

@@ -5,6 +5,7 @@ ghost use Rattle.lab_model.specs.Shapes.{Place as PlaceSeen, IsShaped};
 ghost use Rattle.lab_model.specs.Rules.{place_at};
 ghost use Rattle.node_maps.specs.NodeMaps.{candidates, IsChoice, node_map, plugs_of};
 ghost use Rattle.node_maps.specs.Moved.{KeepsPlaces};
+ghost use Rattle.node_maps.specs.Rooms.{room_of};
 ghost use Rattle.map_board.specs.Members.{asked_place};
 ghost use Rattle.map_board.specs.Tables.{IsSetting};
 ghost use Rattle.map_board.specs.Boards.{IsLaid, IsBoard, IsPlanned, Was};
@@ -16,7 +17,7 @@ use crate::seats::Seats;
 use crate::table::Setting;
 use cost_rule::Parts;
 use lab_base::{Items, Memory, NodeId};
-use node_maps::{Given, Place, has_room};
+use node_maps::{Given, Place, Room, has_room};
 use std::alloc::Global;
 use std::mem;
 use trunk_sums::{Change, Sums, are_apart};
@@ -139,25 +140,24 @@ impl Board {
         )
     }
 
-    /// Whether a virtual node that goes to another of its candidates is one more on a node than may have its type there.
-    pub fn is_full(&self, setting: &Setting, virt: usize, place: Place) -> bool
+    /// Whether a virtual node that goes to another of its candidates, with this room, is one more on a node than may have its type there.
+    #[inline(always)]
+    pub fn is_full(&self, setting: &Setting, virt: usize, room: Room) -> bool
         requires setting { IsSetting setting.now }
         requires laid { IsLaid setting.now self.now }
         requires virt { virt < length setting.now.mapper.wiring.now.nodes }
-        requires among { Contains (slice_index_or (candidates setting.now.mapper.lab.now setting.now.mapper.free.now setting.now.mapper.wiring.now) virt [])
-            place }
-        ensures full { IsTrue result ↔ IsFull setting.now.mapper.lab.now self.now.mapping.places virt place }
-        ensures none { IsTrue result
-            → node_map setting.now.mapper.lab.now setting.now.mapper.free.now setting.now.mapper.wiring.now (placed_at self.now.mapping virt place).places
+        requires node { room.node.0 < length setting.now.mapper.lab.now.nodes }
+        ensures full { (p : PlaceSeen)
+            → Contains (slice_index_or (candidates setting.now.mapper.lab.now setting.now.mapper.free.now setting.now.mapper.wiring.now) virt []) p
+            → room ≡ room_of setting.now.mapper.lab.now p → IsTrue result ↔ IsFull setting.now.mapper.lab.now self.now.mapping.places virt p }
+        ensures none { (p : PlaceSeen)
+            → Contains (slice_index_or (candidates setting.now.mapper.lab.now setting.now.mapper.free.now setting.now.mapper.wiring.now) virt []) p
+            → room ≡ room_of setting.now.mapper.lab.now p → IsTrue result
+            → node_map setting.now.mapper.lab.now setting.now.mapper.free.now setting.now.mapper.wiring.now (placed_at self.now.mapping virt p).places
             ≡ None }
     {
         let from = self.mapping.places.as_slice()[virt].0;
-        from.0 != place.0.0
-            && is_taken(
-                setting.mapper.lab,
-                place,
-                self.seats.guests[place.0.0 as usize],
-            )
+        from.0 != room.node.0 && self.seats.guests[room.node.0 as usize] >= room.most
     }
 
     /// A virtual node goes to another of its candidates; the plugs stay.

@@ -15,27 +15,26 @@ use lab_base::{IfaceId, Memory, NodeId};
 use node_maps::{End, Given, NodeIface, Place};
 use std::alloc::Global;
 use trunk_sums::{Change, EndRow};
-use virt_topo::{MAX_ENDS, Mapping};
+use virt_topo::Mapping;
 
-/// The numbers of the ends on a node.
+/// The numbers of the ends on a node: of each virtual node there its own. The homes are by virtual node its node.
 fn list_ends(
     listed: &mut Vec<u16>,
-    places: &[Place],
-    ends: &[End],
+    setting: &Setting,
+    homes: &[u16],
     node: NodeId,
 ) -> Result<(), Memory>
-    requires few { length ends.now ≤ MAX_ENDS }
-    requires placed { All (λ e. e.node < length places.now) ends.now }
-    ensures { OnOk result (listed.new.items ≡ numbers_of 0 (is_on places.now node.0) ends.now) }
+    requires setting { IsSetting setting.now }
+    requires homes { length homes.now ≡ length setting.now.mapper.wiring.now.nodes }
+    ensures { OnOk result (listed.new.items ≡ numbers_of 0 (λ e. slice_index_or homes.now e.node 0 == node.0) setting.now.mapper.ends.now) }
 {
     listed.clear();
-    let mut number = 0u16;
-    for end in ends {
-        if places[end.node as usize].0.0 == node.0 {
-            listed.push(number)?;
+    for virt in 0..homes.len() {
+        if homes[virt] == node.0 {
+            listed.extend_from_slice(setting.table.own[virt].as_slice())?;
         }
-        number += 1;
     }
+    listed.sort_unstable();
     Ok(())
 }
 
@@ -98,7 +97,7 @@ fn fits(end: End, iface: NodeIface) -> bool
 }
 
 /// Whether each end of these numbers fits the interface of its own place.
-fn are_in_order(ends: &[End], listed: &[u16], ifaces: &[NodeIface]) -> bool
+pub(crate) fn are_in_order(ends: &[End], listed: &[u16], ifaces: &[NodeIface]) -> bool
     requires { All (λ k. k < length ends.now) listed.now }
     ensures { result ≡ are_in_order (map (λ k. slice_index_or ends.now k no_end) listed.now) ifaces.now }
 {
@@ -235,6 +234,6 @@ pub(crate) fn give(
         let own = setting.table.own[virt].as_slice();
         return give_listed(alloc, setting, places, node, own, given, changes);
     }
-    list_ends(listed, places, setting.mapper.ends, node)?;
+    list_ends(listed, setting, &seats.homes, node)?;
     give_listed(alloc, setting, places, node, listed, given, changes)
 }

@@ -5,6 +5,7 @@
 mod board;
 mod chosen;
 mod crowd;
+mod foretold;
 mod give;
 mod joints;
 mod members;
@@ -17,5 +18,6 @@ mod ties;
 
 pub use board::Board;
 pub use chosen::Chosen;
+pub use foretold::Foretold;
 pub use seats::Seats;
 pub use table::{Setting, Table};

@@ -1,10 +1,11 @@
 // The members of classes, counted by class and type.
-ghost use Rattle.std.specs.Prelude.{◌≡◌, ◌<◌, ◌≤◌, ◌+◌, ◌*◌, ℕ, None, length, position, slice_index_or, slice_set, IfOk, IfSome};
+ghost use Rattle.std.specs.Prelude.{◌≡◌, ◌<◌, ◌≤◌, ◌+◌, ◌*◌, ℕ, None, true, false, length, position, slice_index_or, slice_set, IfOk, IfSome};
 ghost use Rattle.std.specs.List.{list_any};
 ghost use Rattle.lab_base.specs.Names.{same_name};
 ghost use Rattle.virt_topo.specs.Soundness.{IsSound};
 ghost use Rattle.virt_topo.specs.Wirings.{virt_at};
-ghost use Rattle.lab_model.specs.Rules.{class_at, no_place};
+ghost use Rattle.lab_model.specs.Shapes.{Place as PlaceSeen};
+ghost use Rattle.lab_model.specs.Rules.{class_at, is_asked, no_place, place_at};
 ghost use Rattle.cost_rule.specs.Cost.{types_of};
 ghost use Rattle.map_board.specs.Members.{AreMembers, type_place, class_place, asked_place, one_at};
 ghost use Rattle.map_board.specs.Seated.{kind_soft as kind_soft_in, asked_soft as asked_soft_in, placed_at};
@@ -244,6 +245,31 @@ impl Members {
                     0
                 }
             }
+        }
+    }
+
+    /// The cost that the class of a virtual node would have less once the virtual node has a type that is another one: the weight, where no other
+    /// member has its type.
+    pub(crate) fn last_soft(&self, wiring: &Wiring, _mapping: &Mapping, virt: usize) -> u64
+        requires sound { IsSound wiring.now }
+        requires placed { length _mapping.now.places ≡ length wiring.now.nodes }
+        requires counted { AreMembers wiring.now _mapping.now self.now }
+        requires virt { virt < length wiring.now.nodes }
+        requires asked { is_asked wiring.now (virt_at wiring.now virt).asks (place_at _mapping.now virt).1 ≡ true }
+        ensures is { (p : PlaceSeen) → same_name (place_at _mapping.now virt).1 p.1 ≡ false
+            → result ≡ asked_soft_in wiring.now (placed_at _mapping.now virt p) (virt_at wiring.now virt).asks (place_at _mapping.now virt).1 }
+        ensures small { result ≤ MAX_SOFT_WEIGHT }
+    {
+        match self.counted(virt) {
+            Some(place) => {
+                let weight = wiring.classes.as_slice()[place / MAX_TYPES].weight;
+                if weight < 1_000 && self.counts[place] == 1 {
+                    weight as u64
+                } else {
+                    0
+                }
+            }
+            None => 0,
         }
     }
 

@@ -1,10 +1,10 @@
 // The counts kept by place of a mapping.
-ghost use Rattle.std.specs.Prelude.{◌≡◌, ◌<◌, ◌≤◌, ◌+◌, ◌-◌, ◌==◌, ℕ, length, slice_index_or, slice_set, if◌then◌else◌, IfOk, All, true};
+ghost use Rattle.std.specs.Prelude.{◌≡◌, ◌<◌, ◌≤◌, ◌+◌, ◌-◌, ◌==◌, ℕ, length, slice_index_or, slice_set, if◌then◌else◌, map, IfOk, All, true};
 ghost use Rattle.virt_topo.specs.Soundness.{IsSound};
 ghost use Rattle.virt_topo.specs.Wirings.{virt_at};
 ghost use Rattle.cost_rule.specs.Cost.{nodes_in_use, soft as soft_in};
 ghost use Rattle.lab_model.specs.Shapes.{IsShaped, node_at, has_name};
-ghost use Rattle.lab_model.specs.Rules.{no_place};
+ghost use Rattle.lab_model.specs.Rules.{is_asked, no_place, place_at};
 ghost use Rattle.map_board.specs.Softs.{AreSofts};
 ghost use Rattle.map_board.specs.Members.{AreMembers, asked_place};
 ghost use Rattle.map_board.specs.Seated.{IsSeated, guests_at, placed_at};
@@ -19,9 +19,12 @@ use std::alloc::Global;
 use std::mem;
 use virt_topo::{MAX_TOPOLOGY_NODES, Mapping, Wiring};
 
-/// By node how many virtual nodes are on it, how many nodes are in use, by class and type how many members have it, and what is soft.
+/// By virtual node its node, by node how many virtual nodes are on it, how many nodes are in use, by class and type how many members
+/// have it, and what is soft.
 #[derive(Drop)]
 pub struct Seats {
+    /// By virtual node its node.
+    pub(crate) homes: Vec<u16>,
     pub(crate) guests: Vec<u16>,
     pub(crate) nodes: u64,
     pub(crate) members: Members,
@@ -62,6 +65,17 @@ fn set_place(alloc: Global, mapping: &mut Mapping, virt: usize, place: Place)
     mapping.places = Items::from_vec(places);
 }
 
+/// By virtual node its node.
+fn homes_of(alloc: Global, mapping: &Mapping) -> Result<Vec<u16>, Memory>
+    ensures { IfOk result (λ homes. homes.items ≡ map (λ p. p.0.0) mapping.now.places) }
+{
+    let mut homes = Vec::new(alloc);
+    for place in mapping.places.as_slice() {
+        homes.push(place.0.0)?;
+    }
+    Ok(homes)
+}
+
 fn count_guests(alloc: Global, lab: &Lab, mapping: &Mapping) -> Result<Vec<u16>, Memory>
     requires few { length mapping.now.places ≤ MAX_TOPOLOGY_NODES }
     requires within { All (λ p. p.0.0 < length lab.now.nodes) mapping.now.places }
@@ -82,10 +96,12 @@ impl Seats {
         requires shaped { IsShaped lab.now wiring.now mapping.now }
         ensures { IfOk result (λ seats. IsSeated lab.now wiring.now mapping.now seats) }
     {
+        let homes = homes_of(alloc, mapping)?;
         let guests = count_guests(alloc, lab, mapping)?;
         let members = Members::of(alloc, wiring, mapping)?;
         let parts = parts_of(lab, wiring, mapping);
         Ok(Seats {
+            homes,
             guests,
             nodes: parts.nodes,
             members,
@@ -99,6 +115,7 @@ impl Seats {
         requires used { slice_index_or self.old.guests.items node.0 0 ≡ 1 → 0 < self.old.nodes }
         ensures guests { self.new.guests.items ≡ slice_set self.old.guests.items node.0 (slice_index_or self.old.guests.items node.0 0 - 1) }
         ensures nodes { self.new.nodes + (if slice_index_or self.old.guests.items node.0 0 == 1 then 1 else 0) ≡ self.old.nodes }
+        ensures homes { self.new.homes ≡ self.old.homes }
         ensures members { self.new.members ≡ self.old.members }
         ensures soft { self.new.soft ≡ self.old.soft }
     {
@@ -114,6 +131,7 @@ impl Seats {
         requires few_nodes { self.old.nodes ≤ MAX_TOPOLOGY_NODES }
         ensures guests { self.new.guests.items ≡ slice_set self.old.guests.items node.0 (slice_index_or self.old.guests.items node.0 0 + 1) }
         ensures nodes { self.new.nodes ≡ self.old.nodes + (if slice_index_or self.old.guests.items node.0 0 == 0 then 1 else 0) }
+        ensures homes { self.new.homes ≡ self.old.homes }
         ensures members { self.new.members ≡ self.old.members }
         ensures soft { self.new.soft ≡ self.old.soft }
     {
@@ -141,6 +159,7 @@ impl Seats {
         requires node { place.0.0 < length lab.now.nodes }
         requires into { into ≡ asked_place wiring.now (virt_at wiring.now virt).asks place.1 }
         ensures mapping { mapping.new ≡ placed_at mapping.old virt place }
+        ensures homes { self.new.homes.items ≡ map (λ p. p.0.0) (placed_at mapping.old virt place).places }
         ensures one_each { length self.new.guests.items ≡ length lab.now.nodes }
         ensures guests { (n : ℕ) → n < length lab.now.nodes → slice_index_or self.new.guests.items n 0 ≡ guests_at (placed_at mapping.old virt place).places n }
         ensures nodes { self.new.nodes ≡ nodes_in_use (placed_at mapping.old virt place) }
@@ -152,8 +171,47 @@ impl Seats {
         let from = node_of(mapping, virt);
         self.leave(from);
         self.join(place.0);
+        self.homes[virt] = place.0.0;
         self.members.go(wiring, mapping, virt, &place, into);
         set_place(alloc, mapping, virt, place);
+    }
+
+    /// The soft part of the cost once a virtual node is at another place, and where it is counted then, if it is.
+    pub(crate) fn soft_after(
+        &self,
+        lab: &Lab,
+        wiring: &Wiring,
+        softs: &Softs,
+        mapping: &Mapping,
+        virt: usize,
+        place: &Place,
+    ) -> (u64, Option<usize>)
+        requires sound { IsSound wiring.now }
+        requires softs { AreSofts lab.now wiring.now softs.now }
+        requires shaped { IsShaped lab.now wiring.now mapping.now }
+        requires seated { IsSeated lab.now wiring.now mapping.now self.now }
+        requires virt { virt < length wiring.now.nodes }
+        requires node { place.now.0.0 < length lab.now.nodes }
+        requires asked { is_asked wiring.now (virt_at wiring.now virt).asks (place_at mapping.now virt).1 ≡ true }
+        ensures soft { result.0 ≡ soft_in lab.now wiring.now (placed_at mapping.now virt place.now) }
+        ensures counted { result.1 ≡ asked_place wiring.now (virt_at wiring.now virt).asks place.now.1 }
+    {
+        // for the prover: it tells what every lab keeps
+        let _kept = lab.range();
+        let old = &mapping.places.as_slice()[virt];
+        let before = softs.at(lab, wiring, virt, old.0);
+        let after = softs.at(lab, wiring, virt, place.0);
+        if old.1 == place.1 {
+            let soft = changed(self.soft, (after, 0), (before, 0));
+            return (soft, self.members.counted(virt));
+        }
+        let into = virt_place(wiring, virt, &place.1);
+        let gained = self
+            .members
+            .type_soft(wiring, mapping, virt, &place.1, into);
+        let lost = self.members.last_soft(wiring, mapping, virt);
+        let soft = changed(self.soft, (after, gained), (before, lost));
+        (soft, into)
     }
 
     /// A virtual node goes to another place.

@@ -4,7 +4,7 @@ pub mod EndLists
 pub mod Shaped
 pub mod MapLaws
 mod Bearing
-mod IndexLaws
+pub mod IndexLaws
 mod Worked
 mod TableLaws
 pub mod OrderLaws
@@ -15,4 +15,5 @@ pub mod Assembled
 pub mod MovedLaws
 pub mod KeptPlugs
 pub mod InOrder
-mod MarkLaws
+pub mod MarkLaws
+mod DivisorLaws

@@ -6,6 +6,7 @@ use Rattle.lab_base.specs.Names.{same_name}
 use Rattle.lab_base.proofs.Bytes.{bytes_self}
 use Rattle.lab_base.proofs.Lists.{item_at}
 use Rattle.lab_base.proofs.Members.{any_has, Has-get_or}
+use Rattle.phys_lab.specs.declared.limits.TheConstants.{MAX_LAB_NODES, MAX_NODE_TYPES}
 use Rattle.phys_lab.specs.declared.parts.Node.{Node}
 use Rattle.phys_lab.specs.Kept.{IsLab}
 use Rattle.phys_lab.specs.Labs.{Lab}
@@ -47,8 +48,9 @@ all_places lab = record {
   of_node = typed lab 0 lab.nodes (λ k lt. let same : 0 + k ≡ k = omega arith in ap (λ (j : ℕ). get_or lab.nodes j no_node) same);
 }
 
--- at most 8 places for each of these nodes
-few_from : (n : ℕ) (xs : List Node) → ((k : ℕ) → k < length xs → length (get_or xs k no_node).types ≤ 8) → length (places_from n xs) ≤ 8 * length xs
+-- at most so many places for each of these nodes as it has types
+few_from : (n : ℕ) (xs : List Node) → ((k : ℕ) → k < length xs → length (get_or xs k no_node).types ≤ MAX_NODE_TYPES)
+    → length (places_from n xs) ≤ length xs * MAX_NODE_TYPES
 few_from n [] few = omega arith
 few_from n (x ∷ xs) few =
     let here = few 0 (omega arith) in
@@ -56,7 +58,7 @@ few_from n (x ∷ xs) few =
     let place : List ℕ × ℕ → Place = λ t. (record { 0 = n }, t.0) in
     omega (arith, here, rest, length-append (map place x.types) (places_from (n + 1) xs), length-map x.types place)
 
-pub few_places : (lab : Lab) → IsLab lab → length (lab_places lab) ≤ 8192
+pub few_places : (lab : Lab) → IsLab lab → length (lab_places lab) ≤ MAX_LAB_NODES * MAX_NODE_TYPES
 few_places lab is =
     let few = few_from 0 lab.nodes (λ k lt. (is.nodes (get_or lab.nodes k no_node) (Has-get_or lab.nodes k no_node lt)).few_types) in
     omega (arith, few, is.few_nodes)

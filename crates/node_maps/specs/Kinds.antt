@@ -1,13 +1,9 @@
 -- Kinds of virtual nodes: those of one kind have the same candidates. Numbers of places.
-use Rattle.std.specs.Prelude.{◌≡◌, ℕ, ◌<◌, List, [], length, map, filter, All, slice_index_or}
-use Rattle.phys_lab.specs.declared.free.Free.{Free}
-use Rattle.phys_lab.specs.Labs.{Lab}
+use Rattle.std.specs.Prelude.{◌≡◌, ℕ, ◌<◌, List, [], length, map, All, slice_index_or}
 use Rattle.virt_topo.specs.declared.wiring.VirtNode.{VirtNode}
-use Rattle.virt_topo.specs.declared.wiring.Wiring.{Wiring}
 use Rattle.virt_topo.specs.Wirings.{no_virt}
 use Rattle.lab_model.specs.Shapes.{Place}
 use Rattle.lab_model.specs.Rules.{no_place}
-use Rattle.node_maps.specs.NodeMaps.{is_candidate}
 
 -- both ask for the same, desire the same, and are fixed at the same node, if at one
 pub record AreOfOneKind (u v : VirtNode) : Type 0 where
@@ -26,10 +22,6 @@ pub record AreKinds (nodes : List VirtNode) (n : ℕ) (ones kinds : List ℕ) : 
 -- the list of each virtual node's kind
 abbrev pub by_kind : {X : Type 0} → List (List X) → List ℕ → List (List X)
 by_kind lists kinds = map (λ k. slice_index_or lists k []) kinds
-
--- the candidates of a virtual node among these places
-abbrev pub candidates_among : Lab → Free → Wiring → List Place → VirtNode → List Place
-candidates_among lab free w places v = filter (λ p. is_candidate lab free w v p) places
 
 -- the place of a number
 abbrev pub place_of : List Place → ℕ → Place

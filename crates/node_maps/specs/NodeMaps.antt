@@ -41,9 +41,13 @@ is_candidate lab free w v p =
     && (suits w v (node_at lab p.0).features p.1
     && is_fixed_at v.fixed (node_at lab p.0).name)
 
+-- the candidates of a virtual node among these places
+abbrev pub candidates_among : Lab → Free → Wiring → List Place → VirtNode → List Place
+candidates_among lab free w places v = filter (λ p. is_candidate lab free w v p) places
+
 -- the candidates of a virtual node, in the lab's order
 abbrev pub candidates_of : Lab → Free → Wiring → VirtNode → List Place
-candidates_of lab free w v = filter (λ p. is_candidate lab free w v p) (lab_places lab)
+candidates_of lab free w v = candidates_among lab free w (lab_places lab) v
 
 -- the candidates by virtual node
 unfoldable pub candidates : Lab → Free → Wiring → List (List Place)

@@ -1,6 +1,7 @@
 //! Node maps: the candidates of virtual nodes, the interface rule, and the mapping of a node map.
 #![tactic(auto)]
 
+mod divisor;
 mod ends;
 mod ifaces;
 mod index;
@@ -9,6 +10,7 @@ mod lists;
 mod mapped;
 mod mapper;
 mod marked;
+mod rooms;
 mod suited;
 
 pub use ends::{End, ends_of};
@@ -18,5 +20,6 @@ pub use kinds::Kinds;
 pub use lists::{Candidates, Place};
 pub use mapped::{copy_places, is_feasible, node_map};
 pub use mapper::{Mapper, has_room};
-pub use marked::Marked;
+pub use marked::{Marked, marked_numbers};
+pub use rooms::{Room, Rooms};
 pub use suited::candidates;

@@ -1,27 +1,27 @@
 // Candidates on nodes that are marked.
 ghost use Rattle.std.specs.Prelude.{◌≡◌, ◌<◌, [], true, length, map, slice_index_or, All, IfOk};
 ghost use Rattle.node_maps.specs.Kinds.{listed, AreNumbers};
-ghost use Rattle.node_maps.specs.Marked.{mark_of, marks_of};
+ghost use Rattle.node_maps.specs.Marked.{mark_of, marked_numbers, marked_of, marks_of};
 
 use crate::lists::{Candidates, Place};
 use lab_base::{Items, Memory, NodeId};
 use std::alloc::Global;
 use std::marker::Model;
 
-/// By virtual node and candidate whether the candidate's node is marked. Virtual nodes of one kind share a list.
+/// By virtual node the numbers of its candidates on marked nodes, ascending. Virtual nodes of one kind share a list.
 #[derive(Drop)]
 pub struct Marked {
     /// By kind of virtual node.
-    lists: Vec<Items<bool>>,
+    lists: Vec<Items<usize>>,
     /// By virtual node its kind.
     kinds: Vec<usize>,
 }
 
 impl Model for Marked {
-    ghost use Rattle.std.specs.Prelude.{List, Bool};
+    ghost use Rattle.std.specs.Prelude.{ℕ, List};
     ghost use Rattle.node_maps.specs.Kinds.{by_kind as marked_by_kind};
 
-    ghost Value = { List (List Bool) };
+    ghost Value = { List (List ℕ) };
 
     ghost view = { λ a. marked_by_kind a.lists.items a.kinds.items };
 }
@@ -47,51 +47,66 @@ fn marks_in(alloc: Global, nodes: &[bool], listed: &[Place]) -> Result<Items<boo
     Ok(marks)
 }
 
-/// By number its mark.
-fn marks_at(alloc: Global, marks: &[bool], numbers: &[u16]) -> Result<Items<bool>, Memory>
-    requires { All (λ k. k < length marks.now) numbers.now }
-    ensures { IfOk result (λ own. own ≡ map (mark_of marks.now) numbers.now) }
+/// The numbers that are marked, ascending.
+pub fn marked_numbers(alloc: Global, marks: &[bool]) -> Result<Items<usize>, Memory>
+    ensures { IfOk result (λ marked. marked ≡ marked_numbers marks.now) }
 {
-    let mut own = Items::new(alloc);
-    for number in numbers {
-        own.push(marks[*number as usize])?;
+    let mut marked = Items::new(alloc);
+    for number in 0..marks.len() {
+        if marks[number] {
+            marked.push(number)?;
+        }
     }
-    Ok(own)
+    Ok(marked)
 }
 
-/// By list and number its mark.
-fn all_marks(
+/// Where in a list of numbers the marked ones stand, ascending.
+fn marked_at(alloc: Global, marks: &[bool], numbers: &[u16]) -> Result<Items<usize>, Memory>
+    requires { All (λ k. k < length marks.now) numbers.now }
+    ensures { IfOk result (λ marked. marked ≡ marked_numbers (map (mark_of marks.now) numbers.now)) }
+{
+    let mut marked = Items::new(alloc);
+    for place in 0..numbers.len() {
+        if marks[numbers[place] as usize] {
+            marked.push(place)?;
+        }
+    }
+    Ok(marked)
+}
+
+/// By list where in it the marked numbers stand.
+fn all_marked(
     alloc: Global,
     marks: &[bool],
     lists: &[Items<u16>],
-) -> Result<Vec<Items<bool>>, Memory>
+) -> Result<Vec<Items<usize>>, Memory>
     requires { All (All (λ k. k < length marks.now)) lists.now }
-    ensures { IfOk result (λ all. all.items ≡ map (map (mark_of marks.now)) lists.now) }
+    ensures { IfOk result (λ all. all.items ≡ map (λ numbers. marked_numbers (map (mark_of marks.now) numbers)) lists.now) }
 {
     let mut all = Vec::new(alloc);
     for numbers in lists {
-        let own = marks_at(alloc, marks, numbers.as_slice())?;
+        let own = marked_at(alloc, marks, numbers.as_slice())?;
         all.push(own)?;
     }
     Ok(all)
 }
 
-/// By list and number whether the place of the number is on a marked node.
-fn listed_marks(
+/// By list where in it the numbers of places on marked nodes stand.
+fn listed_marked(
     alloc: Global,
     nodes: &[bool],
     places: &[Place],
     lists: &[Items<u16>],
-) -> Result<Vec<Items<bool>>, Memory>
+) -> Result<Vec<Items<usize>>, Memory>
     requires { AreNumbers places.now lists.now }
-    ensures { IfOk result (λ all. all.items ≡ map (marks_of nodes.now) (listed places.now lists.now)) }
+    ensures { IfOk result (λ all. all.items ≡ map (marked_of nodes.now) (listed places.now lists.now)) }
 {
     let marks = marks_in(alloc, nodes, places)?;
-    let all = all_marks(alloc, marks.as_slice(), lists)?;
+    let all = all_marked(alloc, marks.as_slice(), lists)?;
     Ok(all)
 }
 
-fn copy_kinds(kinds: &Vec<usize>) -> Result<Vec<usize>, Memory>
+pub(crate) fn copy_kinds(kinds: &Vec<usize>) -> Result<Vec<usize>, Memory>
     ensures { IfOk result (λ copy. copy.items ≡ kinds.now.items) }
 {
     let copy = kinds.clone()?;
@@ -99,29 +114,29 @@ fn copy_kinds(kinds: &Vec<usize>) -> Result<Vec<usize>, Memory>
 }
 
 impl Candidates {
-    /// By virtual node and candidate whether the candidate's node is marked; those behind the end of the marks are.
+    /// By virtual node the numbers of its candidates on marked nodes; nodes behind the end of the marks are marked.
     pub fn marked(&self, alloc: Global, nodes: &[bool]) -> Result<Marked, Memory>
-        ensures { IfOk result (λ marked. marked ≡ map (marks_of nodes.now) self.now) }
+        ensures { IfOk result (λ marked. marked ≡ map (marked_of nodes.now) self.now) }
     {
-        let lists = listed_marks(alloc, nodes, &self.places, &self.lists)?;
+        let lists = listed_marked(alloc, nodes, &self.places, &self.lists)?;
         let kinds = copy_kinds(&self.kinds)?;
         Ok(Marked { lists, kinds })
     }
 }
 
-/// The marks of a kind.
-fn list_of(lists: &[Items<bool>], kind: usize) -> &[bool]
+/// The numbers of a kind.
+fn list_of(lists: &[Items<usize>], kind: usize) -> &[usize]
     ensures { result.now ≡ slice_index_or lists.now kind [] }
 {
     match lists.get(kind) {
-        Some(marks) => marks.as_slice(),
+        Some(numbers) => numbers.as_slice(),
         None => &[],
     }
 }
 
 impl Marked {
-    /// The marks of a virtual node's candidates.
-    pub fn of(&self, virt: usize) -> &[bool]
+    /// The numbers of a virtual node's candidates on marked nodes, ascending.
+    pub fn of(&self, virt: usize) -> &[usize]
         requires { virt < length self.now }
         ensures { result.now ≡ slice_index_or self.now virt [] }
     {

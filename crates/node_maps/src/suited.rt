@@ -2,8 +2,8 @@
 ghost use Rattle.std.specs.Prelude.{◌≡◌, ◌<◌, ◌≤◌, ◌*◌, ◌++◌, map, length, All, IfOk, OnOk, false, slice_index_or};
 ghost use Rattle.lab_model.specs.Shapes.{IsFreeOf};
 ghost use Rattle.virt_topo.specs.Wirings.{virt_at};
-ghost use Rattle.node_maps.specs.NodeMaps.{lab_places, is_candidate, candidates as candidates_in};
-ghost use Rattle.node_maps.specs.Kinds.{candidates_among, listed, places_of as numbered, AreNumbers};
+ghost use Rattle.node_maps.specs.NodeMaps.{lab_places, is_candidate, candidates_among, candidates as candidates_in};
+ghost use Rattle.node_maps.specs.Kinds.{listed, places_of as numbered, AreNumbers};
 
 use crate::kinds::Kinds;
 use crate::lists::{Candidates, Place};

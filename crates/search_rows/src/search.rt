@@ -36,8 +36,8 @@ fn push_cost(out: &mut Text, word: &[u8], cost: u64) -> Result<(), Memory> {
     out.push(b'\n')
 }
 
-/// Adds the answer of a search with its cost.
-fn push_solved(out: &mut Text, solved: &Solved) -> Result<(), Memory> {
+/// Adds the answer of a search with its cost, without its mapping.
+fn push_cost_of(out: &mut Text, solved: &Solved) -> Result<(), Memory> {
     match solved {
         Solved::Least(_, cost) => push_cost(out, b"least ", *cost),
         Solved::Local(_, cost) => push_cost(out, b"local ", *cost),
@@ -47,7 +47,7 @@ fn push_solved(out: &mut Text, solved: &Solved) -> Result<(), Memory> {
 }
 
 /// Searches once, and adds the answer with its cost.
-fn push_solve(
+fn push_cost_solved(
     out: &mut Text,
     alloc: Global,
     problem: &Problem<'_>,
@@ -58,7 +58,7 @@ fn push_solve(
 {
     match solve(alloc, problem.lab, problem.free, problem.wiring, rule, SEED) {
         Ok(solved) => {
-            let told = push_solved(out, &solved);
+            let told = push_cost_of(out, &solved);
             drop(solved);
             told
         }
@@ -78,7 +78,7 @@ fn tell_solves(
     requires sound { IsSound problem.now.wiring.now }
 {
     for _time in 0..times {
-        push_solve(out, alloc, problem, rule)?;
+        push_cost_solved(out, alloc, problem, rule)?;
     }
     Ok(())
 }

@@ -1,8 +1,9 @@
 -- One change, and the sum of the uses.
-use Rattle.std.proofs.Common.{◌≡◌, ◌≢◌, ◌<◌, ◌≤◌, ◌+◌, ◌-◌, ◌*◌, ◌∙◌, ◌∷◌, [], ℕ, zero, suc, true, List, length, get_or, All, refl, ap, sym, arith}
+use Rattle.std.proofs.Common.{◌≡◌, ◌≢◌, ◌<◌, ◌≤◌, ◌+◌, ◌-◌, ◌*◌, ◌∙◌, ◌∷◌, [], ℕ, zero, suc, true, List, length, take, get_or, All, refl, ap, sym, subst, arith}
 use Rattle.std.proofs.Math.ListN.{set}
 use Rattle.std.proofs.Math.Nat.{add-mul}
-use Rattle.std.proofs.lemmas.List.{length-set}
+use Rattle.std.proofs.lemmas.List.{length-set, get_or-take, length-take-le}
+use Rattle.std.proofs.lemmas.List.Elements.{All-take}
 use Rattle.lab_base.specs.declared.ids.IfaceId.{IfaceId}
 use Rattle.phys_lab.specs.Labs.{Lab}
 use Rattle.virt_topo.specs.declared.wiring.Wiring.{Wiring}
@@ -17,7 +18,9 @@ use Rattle.trunk_sums.specs.Counts.{lesser, share}
 use Rattle.trunk_sums.specs.Crossed.{is_on, side_of}
 use Rattle.trunk_sums.specs.Summed.{IsRow, IsSummed, own_plugs, first_end, no_segment, used}
 use Rattle.trunk_sums.specs.Totals.{sum_below, used_of_all}
-use Rattle.trunk_sums.specs.Remade.{remade}
+use Rattle.trunk_sums.specs.Remade.{remade, AreChanges}
+use Rattle.trunk_sums.specs.Foreseen.{AreApart, AreUses}
+use Rattle.trunk_sums.proofs.RemadeLaws.{remade_more}
 use Rattle.trunk_sums.proofs.Replugged.{other_after, own_after, use_set}
 use Rattle.trunk_sums.proofs.SumLaws.{sums_alike}
 use Rattle.trunk_sums.proofs.SummedLaws.{is_in, moved_at, share_is}
@@ -74,6 +77,35 @@ own_kept w plugs (c ∷ cs) s rows others =
 pub remade_length : (plugs : List IfaceId) (cs : List Change) → length (remade plugs cs) ≡ length plugs
 remade_length plugs [] = refl
 remade_length plugs (c ∷ cs) = remade_length (set plugs c.end c.to) cs ∙ length-set plugs c.end c.to
+
+-- the changes before the one at k leave its segment its plugs
+own_before : (lab : Lab) (w : Wiring) (plugs : List IfaceId) (cs : List Change) (k : ℕ) (d : Change) → k < length cs → AreChanges lab w cs → AreApart cs
+    → own_plugs w.segments (remade plugs (take k cs)) (get_or cs k d).row.segment ≡ own_plugs w.segments plugs (get_or cs k d).row.segment
+own_before lab w plugs cs k d here are apart =
+    let c : Change = get_or cs k d in
+    own_kept w plugs (take k cs) c.row.segment (All-take (λ (y : Change). IsRow w y.end y.row) k cs are.rows) (λ j e j_lt.
+    let within : j < k = (let count = length-take-le k cs (omega (arith, here)) in omega (arith, j_lt, count)) in
+    subst (λ (y : Change). y.row.segment ≢ c.row.segment) (sym (get_or-take k cs j e within)) (apart j k e d within here))
+
+-- the sum of the uses after those before it
+pub uses_before : (lab : Lab) (w : Wiring) (plugs : List IfaceId) (cs : List Change) (k : ℕ) (d : Change) (sum : ℕ) → k < length cs → length plugs ≡ length (end_nodes w.segments)
+    → AreChanges lab w cs → AreApart cs → sum ≡ used_of_all lab w (remade plugs (take k cs)) → AreUses lab w plugs (get_or cs k d).row.segment sum
+uses_before lab w plugs cs k d sum here plugged are apart is = record {
+  others = remade plugs (take k cs);
+  one_each = remade_length plugs (take k cs) ∙ plugged;
+  own = own_before lab w plugs cs k d here are apart;
+  uses = is;
+}
+
+-- and the sum with it
+pub uses_after : (lab : Lab) (w : Wiring) (plugs : List IfaceId) (cs : List Change) (k : ℕ) (d : Change) (sum next : ℕ) → k < length cs → length plugs ≡ length (end_nodes w.segments)
+    → AreChanges lab w cs → AreApart cs → sum ≡ used_of_all lab w (remade plugs (take k cs))
+    → ((others : List IfaceId) → length others ≡ length (end_nodes w.segments) → own_plugs w.segments others (get_or cs k d).row.segment ≡ own_plugs w.segments plugs (get_or cs k d).row.segment
+    → sum ≡ used_of_all lab w others → next ≡ used_of_all lab w (set others (get_or cs k d).end (get_or cs k d).to))
+    → next ≡ used_of_all lab w (remade plugs (take (k + 1) cs))
+uses_after lab w plugs cs k d sum next here plugged are apart is step =
+    step (remade plugs (take k cs)) (remade_length plugs (take k cs) ∙ plugged) (own_before lab w plugs cs k d here are apart) is
+    ∙ ap (λ (l : List IfaceId). used_of_all lab w l) (sym (remade_more plugs cs k d here))
 
 -- all trunks use at most so much
 sums_le : (n m : ℕ) (f : ℕ → ℕ) → ((t : ℕ) → t < n → f t ≤ 4096 * 1000000000) → n ≤ m → sum_below n f ≤ m * (4096 * 1000000000)

@@ -7,7 +7,7 @@ ghost use Rattle.trunk_sums.specs.Between.{IsTable};
 ghost use Rattle.trunk_sums.specs.Summed.{IsRow, IsSummed, own_plugs};
 ghost use Rattle.trunk_sums.specs.Totals.{used_of_all};
 ghost use Rattle.trunk_sums.specs.Remade.{remade, AreChanges};
-ghost use Rattle.trunk_sums.specs.Foreseen.{AreApart, AreRising};
+ghost use Rattle.trunk_sums.specs.Foreseen.{AreApart, AreRising, AreUses};
 
 use crate::gains::kbps_of;
 use crate::made::Change;
@@ -89,6 +89,7 @@ impl Sums {
             → own_plugs wiring.now.segments others change.row.segment ≡ own_plugs wiring.now.segments plugs.now change.row.segment
             → used_of_all lab.now wiring.now (slice_set others change.end change.to) + result.takes ≡ used_of_all lab.now wiring.now others + result.adds }
         ensures small { result.adds ≤ MAX_TRUNKS * MAX_KBPS }
+        ensures few { length lab.now.trunks ≤ MAX_TRUNKS }
     {
         // for the prover: it tells what every lab keeps
         let _kept = lab.range();
@@ -101,6 +102,33 @@ impl Sums {
             adds: kbps_of(gains.adds(from, to), change.row.kbps),
             takes: kbps_of(gains.takes(from, to), change.row.kbps),
         }
+    }
+
+    /// The sum of the uses of all trunks after one change more that isn't made, where no earlier one was of its segment; `uses` is the sum after those.
+    #[inline(always)]
+    pub fn total_with(
+        &self,
+        lab: &Lab,
+        wiring: &Wiring,
+        table: &Crossings,
+        plugs: &[IfaceId],
+        uses: u64,
+        change: Change,
+    ) -> u64
+        requires limits { keeps_limits wiring.now ≡ true }
+        requires plugged { length plugs.now ≡ length (end_nodes wiring.now.segments) }
+        requires in_lab { All (λ i. i.0 < length lab.now.ifaces) plugs.now }
+        requires table { IsTable lab.now table.now }
+        requires row { IsRow wiring.now change.end change.row }
+        requires to { change.to.0 < length lab.now.ifaces }
+        requires summed { IsSummed lab.now wiring.now plugs.now self.now }
+        requires uses { AreUses lab.now wiring.now plugs.now change.row.segment uses }
+        ensures { (others : List IfaceSeen) → length others ≡ length (end_nodes wiring.now.segments)
+            → own_plugs wiring.now.segments others change.row.segment ≡ own_plugs wiring.now.segments plugs.now change.row.segment
+            → uses ≡ used_of_all lab.now wiring.now others → result ≡ used_of_all lab.now wiring.now (slice_set others change.end change.to) }
+    {
+        let gain = self.gain(lab, wiring, table, plugs, change);
+        uses + gain.adds - gain.takes
     }
 
     /// The sum of the uses of all trunks after changes that aren't made, each of another segment.
@@ -121,12 +149,9 @@ impl Sums {
         requires summed { IsSummed lab.now wiring.now plugs.now self.now }
         ensures { result ≡ used_of_all lab.now wiring.now (remade plugs.now changes.now) }
     {
-        // for the prover: it tells what every lab keeps
-        let _kept = lab.range();
         let mut total = self.total;
         for change in changes {
-            let gain = self.gain(lab, wiring, table, plugs, *change);
-            total = total + gain.adds - gain.takes;
+            total = self.total_with(lab, wiring, table, plugs, total, *change);
         }
         total
     }

@@ -89,7 +89,7 @@ fn table_of(alloc: Global, lab: &Lab) -> Result<Vec<Items<Crossing>>, Memory>
     // for the prover: it tells what every lab keeps
     let _kept = lab.range();
     let mut lists = Vec::new(alloc);
-    for number in 0..MAX_SWITCHES * MAX_SWITCHES {
+    for number in 0..MAX_SWITCHES * lab.switches().len() {
         push_pair(
             alloc,
             &mut lists,

@@ -13,12 +13,12 @@ loop-virt-preserved c =
     let cs = c.args.listed.now in
     let places = c.loop-virt.places in
     let n = c.loop-virt.virt in
-    let p : Place = c.candidate.result in
+    let p : Place = c.at.result in
     let known = c.loop-virt.invariant in
     let lt : n < length cs = omega (arith, c.loop-virt-test.true, c.len-virt-end.ensures) in
     let fewer : length places < length cs = omega (arith, lt, known.count) in
     let At : ℕ → Type 0 = λ k. Contains (get_or cs k []) p in
-    let among : Contains (get_or cs (length places) []) p = subst At (sym known.count) c.candidate.ensures.among in
+    let among : Contains (get_or cs (length places) []) p = subst At (sym known.count) c.at.ensures.among in
     let grown : c.push.new.self ≡ places ++ p ∷ [] = c.in_ok-push.ensures.ok in
     record {
       partial = subst (λ (l : List Place). IsPartial cs l) (sym grown) (partial_more cs places p known.partial fewer among);

@@ -28,8 +28,8 @@ fits-requires-clause-node c =
     let lt : n < length (candidates x.lab.now x.free.now x.wiring.now) = omega (arith, c.requires.more, ap length c.requires.placing.listed) in
     let next : c.len-next.result ≡ n = omega (arith, c.len-next.ensures, c.args.places.now.ok.0) in
     let listed = ap (λ (k : ℕ). get_or c.args.placing.now.candidates.now k []) next ∙ ap (λ xs. get_or xs n []) c.requires.placing.listed in
-    All-contains On (get_or (candidates x.lab.now x.free.now x.wiring.now) n []) c.at.result (candidates_within x.lab.now x.free.now x.wiring.now n lt)
-    (subst (λ xs. Contains xs c.at.result) listed c.at.ensures.among)
+    All-contains On (get_or (candidates x.lab.now x.free.now x.wiring.now) n []) c.at-place.result (candidates_within x.lab.now x.free.now x.wiring.now n lt)
+    (subst (λ xs. Contains xs c.at-place.result) listed c.at-place.ensures.among)
 
 pub returns-then-branch-clause-same : goal.returns-then-branch-clause-same
 returns-then-branch-clause-same c = c.in_ok-fits.ensures.same ∙ c.loop-number.invariant.same
@@ -40,13 +40,12 @@ returns-then-branch-clause-first c =
     let places = c.args.places.now.items in
     let own = get_or c.args.placing.now.candidates.now (length places) [] in
     let k = c.loop-number.number in
-    let p = c.at-then-branch.result in
+    let p = c.at-place.result in
     let next : c.len-next.result ≡ length places = omega (arith, c.len-next.ensures, c.args.places.now.ok.0) in
     let listed = ap (λ (j : ℕ). get_or c.args.placing.now.candidates.now j []) next in
     let lt : k < length own = omega (arith, c.loop-number-test.true, c.count-number-end.ensures, ap length listed) in
-    let is : p ≡ get_or own k p = c.at-then-branch.ensures.named ∙ ap (λ (l : List Place). get_or l k no_place) listed ∙ get_or_default own k no_place p lt in
-    let again : p ≡ c.at.result = c.at-then-branch.ensures.named ∙ sym c.at.ensures.named in
-    let yes = (λ j. fits_next x.lab.now x.wiring.now (sym c.loop-number.invariant.same j) (again j)) ∙ sym c.in_ok-fits.ensures.fits ∙ c.if-branch.true in
+    let is : p ≡ get_or own k p = c.at-place.ensures.named ∙ ap (λ (l : List Place). get_or l k no_place) listed ∙ get_or_default own k no_place p lt in
+    let yes = ap (λ (ps : List Place). fits_next x.lab.now x.wiring.now ps p) (sym c.loop-number.invariant.same) ∙ sym c.in_ok-fits.ensures.fits ∙ c.if-branch.true in
     sym (find_here (λ q. fits_next x.lab.now x.wiring.now places q) own k p lt is yes) ∙ c.loop-number.invariant.first
 
 pub loop-number-preserved : goal.loop-number-preserved
@@ -55,11 +54,11 @@ loop-number-preserved c =
     let places = c.args.places.now.items in
     let own = get_or c.args.placing.now.candidates.now (length places) [] in
     let k = c.loop-number.number in
-    let p = c.at.result in
+    let p = c.at-place.result in
     let next : c.len-next.result ≡ length places = omega (arith, c.len-next.ensures, c.args.places.now.ok.0) in
     let listed = ap (λ (j : ℕ). get_or c.args.placing.now.candidates.now j []) next in
     let lt : k < length own = omega (arith, c.loop-number-test.true, c.count-number-end.ensures, ap length listed) in
-    let is : p ≡ get_or own k p = c.at.ensures.named ∙ ap (λ (l : List Place). get_or l k no_place) listed ∙ get_or_default own k no_place p lt in
+    let is : p ≡ get_or own k p = c.at-place.ensures.named ∙ ap (λ (l : List Place). get_or l k no_place) listed ∙ get_or_default own k no_place p lt in
     let no = ap (λ (ps : List Place). fits_next x.lab.now x.wiring.now ps p) (sym c.loop-number.invariant.same) ∙ sym c.in_ok-fits.ensures.fits ∙ c.if-branch.false in
     record {
       same = c.in_ok-fits.ensures.same ∙ c.loop-number.invariant.same;

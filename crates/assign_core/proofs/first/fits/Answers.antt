@@ -10,13 +10,13 @@ use Rattle.assign_core.proofs.first.fits.Goals as goal
 pub keeps_node-requires-clause-few : goal.keeps_node-requires-clause-few
 keeps_node-requires-clause-few c =
     let before = c.args.places.now.items in
-    let more : c.deref.result.now ≡ before ++ c.args.place ∷ [] = c.deref.ensures.value ∙ c.in_ok-push.ensures.items in
-    omega (arith, ap length more, length-append before (c.args.place ∷ []), c.requires.more)
+    let more : c.deref.result.now ≡ before ++ c.args.place.now ∷ [] = c.deref.ensures.value ∙ c.in_ok-push.ensures.items in
+    omega (arith, ap length more, length-append before (c.args.place.now ∷ []), c.requires.more)
 
 pub returns-clause-same : goal.returns-clause-same
 returns-clause-same c =
     let before = c.args.places.now.items in
-    let p = c.args.place in
+    let p = c.args.place.now in
     let pushed : c.push.new.self.items ≡ before ++ p ∷ [] = c.in_ok-push.ensures.items in
     let all = ap length pushed in
     let both = length-append before (p ∷ []) in
@@ -27,7 +27,7 @@ pub returns-clause-fits : goal.returns-clause-fits
 returns-clause-fits c =
     let x = c.args.placing.now.mapper in
     let before = c.args.places.now.items in
-    let p = c.args.place in
+    let p = c.args.place.now in
     let more : c.deref.result.now ≡ before ++ p ∷ [] = c.deref.ensures.value ∙ c.in_ok-push.ensures.items in
     let told : List Place → Bool = λ ms. may_share x.lab.now x.wiring.now ms p.0.0 && is_some (plugs_from x.lab.now ms (filter (is_placed_on ms p.0.0) x.ends.now)) in
     c.in_ok-yes.ensures.keeps ∙ ap told more

@@ -9,6 +9,7 @@ use Rattle.map_anneal.specs.Sought.{Sought, sought, choices, price, IsNodeMap, L
 use Rattle.map_anneal.specs.Walk.{walk}
 use Rattle.map_anneal.proofs.PreparedLaws.{same_sought}
 use Rattle.map_anneal.proofs.Prices.{map_shaped}
+use Rattle.assign_core.specs.declared.exact.TheConstants.{MAX_CHOICES}
 use Rattle.assign_core.specs.Exact.{count}
 use Rattle.assign_core.proofs.Firsts.{first_fit_mapped}
 use Rattle.assign_core.proofs.whole.solve_by.Goals as goal
@@ -44,9 +45,9 @@ returns-clause-allowed g c =
     let best = subst (λ (t : Sought). LocallyBest t m) same c.in_ok-lowest.ensures.best in
     let least = subst (λ (t : Sought). IsFirstLeast (price t) (walk t start c.args.seed) annealed) same c.in_ok-annealed.ensures.least in
     let cheaper = subst (λ (t : Sought). price t m ≤ price t annealed) same c.in_ok-lowest.ensures.cheaper in
-    let over : 65536 < count c.moves-moves.result.candidates.now = grind (arith, c.are_few.ensures, c.if-are_few.false) in
+    let over : MAX_CHOICES < count c.moves-moves.result.candidates.now = grind (arith, c.are_few.ensures, c.if-are_few.false) in
     let all : ◌≡◌ {A = ℕ} (count c.moves-moves.result.candidates.now) (count (choices s)) = ap count c.moves-moves.ensures.moves.listed ∙ ap (λ (t : Sought). count (choices t)) same in
-    let many : 65536 < count (choices s) = omega (arith, over, all) in
+    let many : MAX_CHOICES < count (choices s) = omega (arith, over, all) in
     let cheap : All (λ x. price s m ≤ price s x) maps = λ k d lt.
     let at_most = least.least k (get_or maps k d) (slice_get-get_or maps k d lt) in
     omega (arith, at_most, cheaper) in

@@ -1,4 +1,4 @@
-use Rattle.std.proofs.Common.{◌≡◌, ◌<◌, ℕ, get_or}
+use Rattle.std.proofs.Common.{◌≡◌, ◌<◌, ◌-◌, ℕ, length, get_or}
 use Rattle.lab_model.specs.Rules.{no_place}
 use Rattle.map_anneal.specs.Sought.{IsNoCheaper, candidates_at, moved}
 use Rattle.map_anneal.specs.Searches.{sought_of, IsTried}
@@ -14,3 +14,6 @@ invariant-loop-number g l = record {
   none : (k : ℕ) → k < l.number
       → IsNoCheaper (sought_of l.moves l.rule.number) l.initial.at.board.mapping (moved (sought_of l.moves l.rule.number) l.initial.at.board.mapping l.node (get_or (candidates_at (sought_of l.moves l.rule.number) l.node) k no_place));
 }
+
+abbrev pub decreases-loop-number : goal.decreases-loop-number
+decreases-loop-number g l = length (candidates_at (sought_of l.moves l.rule.number) l.node) - l.number

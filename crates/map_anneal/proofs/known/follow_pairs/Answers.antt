@@ -1,10 +1,11 @@
-use Rattle.std.proofs.Common.{◌≡◌, ◌<◌, ◌+◌, ◌∙◌, inl, inr, ℕ, Bool, true, false, List, [], length, get_or, ap, sym, subst, arith, get_or-set_same, get_or-set_other}
+use Rattle.std.proofs.Common.{◌≡◌, ◌<◌, ◌+◌, ◌∙◌, inl, inr, ℕ, Bool, List, [], length, get_or, ap, sym, subst, arith, get_or-set_same, get_or-set_other}
 use Rattle.std.proofs.Math.ListN.{set}
 use Rattle.std.proofs.lemmas.Bool.{cases_eq}
 use Rattle.std.proofs.lemmas.List.{length-set, get_or_default}
 use Rattle.node_maps.proofs.MapLaws.{candidates_count}
 use Rattle.map_anneal.specs.Searches.{sought_of}
 use Rattle.map_anneal.specs.Weighed.{IsPairs}
+use Rattle.map_anneal.proofs.NoteLaws.{known_unmarked, numbers_within}
 use Rattle.map_anneal.proofs.PairLaws.{pairs_after}
 use Rattle.map_anneal.proofs.known.follow_pairs.Goals as goal
 
@@ -29,8 +30,8 @@ forget-requires g c =
     let is_old : old ≡ get_or c.args.pairs.now.items v [] = c.index_mut.ensures.value ∙ get_or_default pairs v old [] lt ∙ was.later v (omega arith) in
     let its : ◌≡◌ {A = ℕ} (length old) (length (get_or c.args.pairs.now.items v [])) = ap length is_old in
     let own = (c.requires.pairs.each v (omega (arith, lt, count, each))).one_each in
-    let marks = ap length c.deref.ensures.value in
-    omega (arith, its, own, marks, c.requires.touched.one_each, candidates_count x.lab.now x.free.now x.wiring.now)
+    numbers_within c.args.touched.now.virts.items c.as_slice.result.now (length old) (c.as_slice.ensures ∙ c.requires.numbers)
+    (omega (arith, its, own, c.requires.touched.one_each, candidates_count x.lab.now x.free.now x.wiring.now))
 
 pub loop-virt-preserved : goal.loop-virt-preserved
 loop-virt-preserved g c =
@@ -48,15 +49,18 @@ loop-virt-preserved g c =
     let old = c.index_mut.result.now in
     let at : old ≡ get_or c.loop-virt.pairs.items v [] = c.index_mut.ensures.value ∙ get_or_default c.loop-virt.pairs.items v c.index_mut.result.now [] (omega (arith, count, each, all, v_in)) in
     let is_old : old ≡ get_or c.args.pairs.now.items v [] = at ∙ was.later v (omega arith) in
+    let own = (c.requires.pairs.each v (omega (arith, v_in, all))).one_each in
+    let its : ◌≡◌ {A = ℕ} (length old) (length (get_or c.args.pairs.now.items v [])) = ap length is_old in
     let forgot = c.forget.ensures in
     let pairs = pairs_after s last next c.args.touched.now v old c.forget.new.self
     (record { sound = c.requires.moves.setting.mapper.sound; first = c.requires.last; second = c.requires.next })
     all v_in touched (subst (λ (r : List Bool). IsPairs s last v r) (sym is_old) (c.requires.pairs.each v (omega (arith, v_in, all))))
     (record {
       count = forgot.one_each;
-      known = λ u lt yes. forgot.known u lt yes;
-      first = λ u lt yes. sym c.has-all.ensures ∙ forgot.some u lt yes;
-      second = λ u lt yes. subst (λ (l : List Bool). get_or l u true ≡ false) c.deref.ensures.value (forgot.unmarked u lt yes);
+      known = λ u lt yes. forgot.known u yes;
+      first = λ u lt yes. sym c.has-all.ensures ∙ forgot.all u yes;
+      second = λ u lt yes. known_unmarked c.args.touched.now.virts.items c.forget.new.self c.as_slice.result.now u (c.as_slice.ensures ∙ c.requires.numbers) forgot.gone
+          (omega (arith, lt, its, own, touched.one_each, all)) yes;
     }) in
     record {
       count = length-set c.loop-virt.pairs.items v c.forget.new.self ∙ count;

@@ -3,11 +3,12 @@ use Rattle.std.proofs.Math.ListN.{set}
 use Rattle.std.proofs.lemmas.Bool.{cases_eq}
 use Rattle.std.proofs.lemmas.List.{length-set, length-map, get_or_default, get_or-map}
 use Rattle.lab_model.specs.Shapes.{Place}
-use Rattle.node_maps.specs.Marked.{marks_of}
+use Rattle.node_maps.specs.Marked.{marked_of, marks_of}
 use Rattle.node_maps.proofs.MapLaws.{candidates_count}
 use Rattle.map_anneal.specs.Sought.{candidates_at, choices}
 use Rattle.map_anneal.specs.Searches.{sought_of}
 use Rattle.map_anneal.specs.Weighed.{IsRow}
+use Rattle.map_anneal.proofs.NoteLaws.{known_unmarked, numbers_within}
 use Rattle.map_anneal.proofs.RowLaws.{row_after}
 use Rattle.map_anneal.proofs.known.follow_rows.Goals as goal
 
@@ -19,16 +20,16 @@ one_more P rows virt new lt done here v less = elim (cases_eq v virt) [
   | inr apart ↦ subst (P v) (sym (get_or-set_other rows virt v new [] apart)) (done v (omega (arith, less, apart)))
 ]
 
--- the marks of the candidates of a virtual node
-marks_are : (nodes : List Bool) (listed : List (List Place)) (marked : List (List Bool)) (v : ℕ) (marks : List Bool) → marks ≡ get_or marked v [] → marked ≡ map (marks_of nodes) listed → v < length listed
-    → marks ≡ marks_of nodes (get_or listed v [])
-marks_are nodes listed marked v marks is all lt = is ∙ ap (λ (l : List (List Bool)). get_or l v []) all ∙ get_or-map (marks_of nodes) listed v [] [] lt
+-- the numbers of the candidates of a virtual node that are on marked nodes
+numbers_are : (nodes : List Bool) (listed : List (List Place)) (marked : List (List ℕ)) (v : ℕ) (numbers : List ℕ) → numbers ≡ get_or marked v [] → marked ≡ map (marked_of nodes) listed → v < length listed
+    → numbers ≡ marked_of nodes (get_or listed v [])
+numbers_are nodes listed marked v numbers is all lt = is ∙ ap (λ (l : List (List ℕ)). get_or l v []) all ∙ get_or-map (marked_of nodes) listed v [] [] lt
 
 pub of-requires : goal.of-requires
 of-requires g c =
     let x = c.args._moves.now.setting.mapper in
     let marked = ap length c.requires.candidates in
-    let count = length-map c.args._moves.now.candidates.now (marks_of c.args.touched.now.nodes.items) in
+    let count = length-map c.args._moves.now.candidates.now (marked_of c.args.touched.now.nodes.items) in
     omega (arith, marked, count, ap length c.requires.moves.listed, c.requires.rows.one_each, c.loop-virt.invariant.count, c.loop-virt-test.true, c.len-virt-end.ensures)
 
 pub forget-requires : goal.forget-requires
@@ -51,9 +52,9 @@ forget-requires g c =
     let own = (c.requires.rows.each v (omega (arith, here, all))).one_each in
     let its : ◌≡◌ {A = ℕ} (length old) (length (get_or c.args.rows.now.items v [])) = ap length is_old in
     let candidates : ◌≡◌ {A = ℕ} (length (get_or listed v [])) (length (candidates_at s v)) = ap (λ (l : List (List Place)). length (get_or l v [])) same in
-    let marks = ap length (marks_are nodes listed c.args.touched.now.candidates v c.of.result.now c.of.ensures c.requires.candidates here) in
-    let marked = length-map (get_or listed v []) (λ (p : Place). get_or nodes p.0.0 true) in
-    omega (arith, own, its, candidates, marks, marked)
+    let marks = length-map (get_or listed v []) (λ (p : Place). get_or nodes p.0.0 true) in
+    numbers_within (marks_of nodes (get_or listed v [])) c.of.result.now (length old)
+    (numbers_are nodes listed c.args.touched.now.candidates v c.of.result.now c.of.ensures c.requires.candidates here) (omega (arith, own, its, candidates, marks))
 
 pub loop-virt-preserved : goal.loop-virt-preserved
 loop-virt-preserved g c =
@@ -72,18 +73,24 @@ loop-virt-preserved g c =
     let at : old ≡ get_or c.loop-virt.rows.items v [] = c.index_mut.ensures.value ∙ get_or_default c.loop-virt.rows.items v c.index_mut.result.now [] (omega (arith, count, each, all, v_in)) in
     let is_old : old ≡ get_or c.args.rows.now.items v [] = at ∙ was.later v (omega arith) in
     let forgot = c.forget.ensures in
-    let marks = marks_are c.args.touched.now.nodes.items c.args._moves.now.candidates.now c.args.touched.now.candidates v c.of.result.now c.of.ensures c.requires.candidates
-    (omega (arith, v_in, all, ap length c.requires.moves.listed)) in
+    let nodes = c.args.touched.now.nodes.items in
+    let listed = c.args._moves.now.candidates.now in
+    let here : v < length listed = omega (arith, v_in, all, ap length c.requires.moves.listed) in
+    let numbers = numbers_are nodes listed c.args.touched.now.candidates v c.of.result.now c.of.ensures c.requires.candidates here in
+    let marks = length-map (get_or listed v []) (λ (p : Place). get_or nodes p.0.0 true) in
+    let own = (c.requires.rows.each v (omega (arith, v_in, all))).one_each in
+    let its : ◌≡◌ {A = ℕ} (length old) (length (get_or c.args.rows.now.items v [])) = ap length is_old in
+    let candidates : ◌≡◌ {A = ℕ} (length (get_or listed v [])) (length (candidates_at s v)) = ap (λ (l : List (List Place)). length (get_or l v [])) c.requires.moves.listed in
     let row = row_after s last next v c.args.touched.now.nodes.items old c.forget.new.self
     (record { sound = c.requires.moves.setting.mapper.sound; first = c.requires.last; second = c.requires.next })
     v_in touched.nodes (subst (λ (r : List Bool). IsRow s last v r) (sym is_old) (c.requires.rows.each v (omega (arith, v_in, all))))
     (record {
       count = forgot.one_each;
-      known = λ k lt yes. forgot.known k lt yes;
-      taken = λ k lt yes. subst (λ (l : List (List Place)). get_or (marks_of c.args.touched.now.nodes.items (get_or l v [])) k true ≡ false) c.requires.moves.listed
-          (subst (λ (l : List Bool). get_or l k true ≡ false) marks (forgot.unmarked k lt yes));
-      here = λ k lt yes. (touched.virts v (sym c.has-all.ensures ∙ forgot.some k lt yes)).here;
-      class = λ k lt yes. (touched.virts v (sym c.has-all.ensures ∙ forgot.some k lt yes)).class;
+      known = λ k lt yes. forgot.known k yes;
+      taken = λ k lt yes. subst (λ (l : List (List Place)). get_or (marks_of nodes (get_or l v [])) k true ≡ false) c.requires.moves.listed
+          (known_unmarked (marks_of nodes (get_or listed v [])) c.forget.new.self c.of.result.now k numbers forgot.gone (omega (arith, lt, own, its, candidates, marks)) yes);
+      here = λ k lt yes. (touched.virts v (sym c.has-all.ensures ∙ forgot.all k yes)).here;
+      class = λ k lt yes. (touched.virts v (sym c.has-all.ensures ∙ forgot.all k yes)).class;
     }) in
     record {
       count = length-set c.loop-virt.rows.items v c.forget.new.self ∙ count;

@@ -1,12 +1,13 @@
-use Rattle.std.proofs.Common.{◌≡◌, ◌∙◌, [], ℕ, List, length, get_or, ap, sym, arith, ◌==◌}
+use Rattle.std.proofs.Common.{◌≡◌, ◌∙◌, [], ℕ, List, length, map, get_or, ap, sym, arith, ◌==◌}
 use Rattle.std.proofs.lemmas.Bool.{and_parts, eqb-true}
-use Rattle.std.proofs.lemmas.List.{get_or_read}
+use Rattle.std.proofs.lemmas.List.{length-map, get_or_read}
 use Rattle.lab_model.specs.Shapes.{Place}
 use Rattle.lab_model.specs.Rules.{no_place}
 use Rattle.node_maps.specs.declared.ends.End.{End}
 use Rattle.map_board.specs.Nodes.{is_on, numbers_of}
 use Rattle.map_board.specs.Seated.{guests_at}
-use Rattle.map_board.proofs.BoardLaws.{placed_ends, few_ends, none_on, own_on}
+use Rattle.map_board.proofs.BoardLaws.{placed_ends, none_on, own_on}
+use Rattle.map_board.proofs.ListedLaws.{homes_on}
 use Rattle.map_board.proofs.OrderedPlans.{none_noted}
 use Rattle.map_board.proofs.give.give.Goals as goal
 
@@ -46,9 +47,17 @@ give_listed-requires-clause-listed c =
     ∙ own_on n v m.places x.mapper.ends.now (placed_ends x m.places c.requires.setting all) (omega (arith, virt, all)) here one
     ∙ ap (λ (l : List Place). numbers_of 0 (is_on l n) x.mapper.ends.now) (sym c.as_slice-places.ensures)
 
-pub list_ends-requires-clause-few : goal.list_ends-requires-clause-few
-list_ends-requires-clause-few c = few_ends c.args.setting.now c.requires.setting
+pub list_ends-requires-clause-homes : goal.list_ends-requires-clause-homes
+list_ends-requires-clause-homes c =
+    let m = c.args.mapping.now in
+    ap length c.deref.ensures.value ∙ ap length c.requires.seated.homes ∙ length-map m.places (λ (p : Place). p.0.0) ∙ c.requires.shaped.places
 
-pub list_ends-requires-clause-placed : goal.list_ends-requires-clause-placed
-list_ends-requires-clause-placed c =
-    placed_ends c.args.setting.now c.as_slice-places.result.now c.requires.setting (ap length c.as_slice-places.ensures ∙ c.requires.shaped.places)
+pub give_listed-requires-2-clause-listed : goal.give_listed-requires-2-clause-listed
+give_listed-requires-2-clause-listed c =
+    let x = c.args.setting.now in
+    let places = c.as_slice-places.result.now in
+    let n = c.args.node.0 in
+    let same : ◌≡◌ {A = List Place} places c.args.mapping.now.places = c.as_slice-places.ensures in
+    c.deref-2.ensures.value ∙ c.in_ok-list_ends.ensures
+    ∙ homes_on n c.deref.result.now places x.mapper.ends.now (c.deref.ensures.value ∙ c.requires.seated.homes ∙ ap (λ (l : List Place). map (λ p. p.0.0) l) (sym same))
+    (placed_ends x places c.requires.setting (ap length same ∙ c.requires.shaped.places))

@@ -1,9 +1,9 @@
-use Rattle.std.proofs.Common.{◌≡◌, ◌++◌, drop}
-use Rattle.map_board.specs.Nodes.{is_on, numbers_of}
+use Rattle.std.proofs.Common.{◌≡◌, ℕ}
+use Rattle.map_board.specs.Nodes.{numbers_of}
+use Rattle.map_board.proofs.ListedLaws.{times, is_before}
 use Rattle.map_board.proofs.give.list_ends.Given as goal
 
-abbrev pub invariant-loop-end : goal.invariant-loop-end
-invariant-loop-end l = record {
-  number : l.number ≡ l.end-index;
-  listed : l.listed.items ++ numbers_of l.end-index (is_on l.places l.node.0) (drop l.end-index l.ends) ≡ numbers_of 0 (is_on l.places l.node.0) l.ends;
+abbrev pub invariant-loop-virt : goal.invariant-loop-virt
+invariant-loop-virt l = record {
+  listed : (k : ℕ) → times k l.listed.items ≡ times k (numbers_of 0 (is_before l.homes l.node.0 l.virt) l.setting.mapper.ends.now);
 }

@@ -2,8 +2,8 @@ use Rattle.std.proofs.Common.{◌≡◌, ◌∙◌, ◌<◌, ℕ, List, All, len
 use Rattle.virt_topo.specs.declared.wiring.VirtNode.{VirtNode}
 use Rattle.virt_topo.specs.Wirings.{virt_at}
 use Rattle.lab_model.specs.Shapes.{Place}
-use Rattle.node_maps.specs.NodeMaps.{candidates_of}
-use Rattle.node_maps.specs.Kinds.{AreKinds, by_kind, candidates_among, listed}
+use Rattle.node_maps.specs.NodeMaps.{candidates_among, candidates_of}
+use Rattle.node_maps.specs.Kinds.{AreKinds, by_kind, listed}
 use Rattle.node_maps.proofs.Places.{all_places}
 use Rattle.node_maps.proofs.KindLaws.{candidates_by_kind}
 use Rattle.node_maps.proofs.suited.candidates.Goals as goal

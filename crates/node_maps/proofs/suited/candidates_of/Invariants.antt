@@ -1,5 +1,6 @@
 use Rattle.std.proofs.Common.{◌≡◌, ◌<◌, All, length, take}
-use Rattle.node_maps.specs.Kinds.{candidates_among, places_of}
+use Rattle.node_maps.specs.NodeMaps.{candidates_among}
+use Rattle.node_maps.specs.Kinds.{places_of}
 use Rattle.node_maps.proofs.suited.candidates_of.Given as goal
 
 abbrev pub invariant-loop-number : goal.invariant-loop-number

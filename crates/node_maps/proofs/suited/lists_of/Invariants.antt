@@ -1,6 +1,7 @@
 use Rattle.std.proofs.Common.{◌≡◌, map, take}
 use Rattle.virt_topo.specs.Wirings.{virt_at}
-use Rattle.node_maps.specs.Kinds.{candidates_among, listed, AreNumbers}
+use Rattle.node_maps.specs.NodeMaps.{candidates_among}
+use Rattle.node_maps.specs.Kinds.{listed, AreNumbers}
 use Rattle.node_maps.proofs.suited.lists_of.Given as goal
 
 abbrev pub invariant-loop-one : goal.invariant-loop-one

@@ -14,6 +14,7 @@ use Rattle.map_anneal.specs.Sought.{choices, price}
 use Rattle.map_anneal.specs.Searches.{sought_of}
 use Rattle.map_anneal.specs.Weighed.{IsNoLess}
 use Rattle.map_board.proofs.Alikes.{place_within}
+use Rattle.map_anneal.proofs.Told.{told_dear, map_dear}
 use Rattle.map_anneal.proofs.Undone.{mapping_is, moved_back, was_moved}
 use Rattle.map_anneal.proofs.tried.Tried.go_if.Goals as goal
 
@@ -45,8 +46,8 @@ returns-then-branch-clause-map g c = λ is.
     let choice = c.requires.tried.board.laid.choice in
     let lt : v < length m.places = omega (arith, c.requires.within, choice.one_each) in
     let from = c.node_of-from.ensures ∙ ap (λ (l : List Place). (get_or l v no_place).0.0) c.as_slice.ensures in
-    let was = was_moved x c.args.self.now.board c.seat.new.self.mapping v c.args.place c.node_of-from.result.0 c.requires.tried.board lt c.seat.ensures.mapping from in
-    ap (λ (y : Mapping). node_map x.mapper.lab.now x.mapper.free.now x.mapper.wiring.now y.places) (sym c.seat.ensures.mapping) ∙ c.in_ok-settle_if.ensures.map c.if-branch.true m.places was
+    let was = was_moved x c.args.self.now.board c.seat_told.new.self.mapping v c.args.place c.node_of-from.result.0 c.requires.tried.board lt c.seat_told.ensures.mapping from in
+    ap (λ (y : Mapping). node_map x.mapper.lab.now x.mapper.free.now x.mapper.wiring.now y.places) (sym c.seat_told.ensures.mapping) ∙ c.in_ok-settle_if.ensures.map c.if-branch.true m.places was
 
 pub returns-then-branch-clause-tried : goal.returns-then-branch-clause-tried
 returns-then-branch-clause-tried g c =
@@ -56,7 +57,7 @@ returns-then-branch-clause-tried g c =
     let choice = c.requires.tried.board.laid.choice in
     let lt : v < length m.places = omega (arith, c.requires.within, choice.one_each) in
     let from = c.node_of-from.ensures ∙ ap (λ (l : List Place). (get_or l v no_place).0.0) c.as_slice.ensures in
-    let was = was_moved x c.args.self.now.board c.seat.new.self.mapping v c.args.place c.node_of-from.result.0 c.requires.tried.board lt c.seat.ensures.mapping from in
+    let was = was_moved x c.args.self.now.board c.seat_told.new.self.mapping v c.args.place c.node_of-from.result.0 c.requires.tried.board lt c.seat_told.ensures.mapping from in
     record {
       board = record {
         laid = c.in_ok-settle_if.ensures.laid;
@@ -82,8 +83,8 @@ seat_back-requires-clause-soft g c =
     let old : c.place_of-old.result ≡ get_or m.places v no_place = c.place_of-old.ensures ∙ ap (λ (l : List Place). get_or l v no_place) c.as_slice-2.ensures in
     let left : c.settle_if.new.self.board.mapping ≡ placed_at m v c.args.place =
     mapping_is c.settle_if.new.self.board.mapping (placed_at m v c.args.place)
-    (c.in_ok-settle_if.ensures.places ∙ ap (λ (y : Mapping). y.places) c.seat.ensures.mapping)
-    (c.in_ok-settle_if.ensures.plugs c.if-branch.false ∙ ap (λ (y : Mapping). y.plugs) c.seat.ensures.mapping) in
+    (c.in_ok-settle_if.ensures.places ∙ ap (λ (y : Mapping). y.places) c.seat_told.ensures.mapping)
+    (c.in_ok-settle_if.ensures.plugs c.if-branch.false ∙ ap (λ (y : Mapping). y.plugs) c.seat_told.ensures.mapping) in
     ap (λ (y : Parts). y.soft) c.parts-soft.ensures ∙ sym (ap (soft x.lab.now x.wiring.now) ((λ j. placed_at (left j) v (old j)) ∙ moved_back m v c.args.place))
 
 pub seat_back-requires-clause-counted : goal.seat_back-requires-clause-counted
@@ -101,8 +102,8 @@ returns-clause-same g c = λ is.
     let old : c.place_of-old.result ≡ get_or m.places v no_place = c.place_of-old.ensures ∙ ap (λ (l : List Place). get_or l v no_place) c.as_slice-2.ensures in
     let left : c.settle_if.new.self.board.mapping ≡ placed_at m v c.args.place =
     mapping_is c.settle_if.new.self.board.mapping (placed_at m v c.args.place)
-    (c.in_ok-settle_if.ensures.places ∙ ap (λ (y : Mapping). y.places) c.seat.ensures.mapping)
-    (c.in_ok-settle_if.ensures.plugs c.if-branch.false ∙ ap (λ (y : Mapping). y.plugs) c.seat.ensures.mapping) in
+    (c.in_ok-settle_if.ensures.places ∙ ap (λ (y : Mapping). y.places) c.seat_told.ensures.mapping)
+    (c.in_ok-settle_if.ensures.plugs c.if-branch.false ∙ ap (λ (y : Mapping). y.plugs) c.seat_told.ensures.mapping) in
     c.seat_back.ensures.mapping ∙ (λ j. placed_at (left j) v (old j)) ∙ moved_back m v c.args.place
 
 pub returns-clause-tried : goal.returns-clause-tried
@@ -114,8 +115,8 @@ returns-clause-tried g c =
     let old : c.place_of-old.result ≡ get_or m.places v no_place = c.place_of-old.ensures ∙ ap (λ (l : List Place). get_or l v no_place) c.as_slice-2.ensures in
     let left : c.settle_if.new.self.board.mapping ≡ placed_at m v c.args.place =
     mapping_is c.settle_if.new.self.board.mapping (placed_at m v c.args.place)
-    (c.in_ok-settle_if.ensures.places ∙ ap (λ (y : Mapping). y.places) c.seat.ensures.mapping)
-    (c.in_ok-settle_if.ensures.plugs c.if-branch.false ∙ ap (λ (y : Mapping). y.plugs) c.seat.ensures.mapping) in
+    (c.in_ok-settle_if.ensures.places ∙ ap (λ (y : Mapping). y.places) c.seat_told.ensures.mapping)
+    (c.in_ok-settle_if.ensures.plugs c.if-branch.false ∙ ap (λ (y : Mapping). y.plugs) c.seat_told.ensures.mapping) in
     let same : c.seat_back.new.self.mapping ≡ m = c.seat_back.ensures.mapping ∙ (λ j. placed_at (left j) v (old j)) ∙ moved_back m v c.args.place in
     record {
       board = record {
@@ -134,8 +135,8 @@ returns-clause-dear g c = λ is other found.
     let choice = c.requires.tried.board.laid.choice in
     let lt : v < length m.places = omega (arith, c.requires.within, choice.one_each) in
     let from = c.node_of-from.ensures ∙ ap (λ (l : List Place). (get_or l v no_place).0.0) c.as_slice.ensures in
-    let was = was_moved x c.args.self.now.board c.seat.new.self.mapping v c.args.place c.node_of-from.result.0 c.requires.tried.board lt c.seat.ensures.mapping from in
-    c.in_ok-settle_if.ensures.dear c.if-branch.false m.places was other (ap (λ (y : Mapping). node_map x.mapper.lab.now x.mapper.free.now x.mapper.wiring.now y.places) c.seat.ensures.mapping ∙ found)
+    let was = was_moved x c.args.self.now.board c.seat_told.new.self.mapping v c.args.place c.node_of-from.result.0 c.requires.tried.board lt c.seat_told.ensures.mapping from in
+    c.in_ok-settle_if.ensures.dear c.if-branch.false m.places was other (ap (λ (y : Mapping). node_map x.mapper.lab.now x.mapper.free.now x.mapper.wiring.now y.places) c.seat_told.ensures.mapping ∙ found)
 
 pub returns-clause-weighed : goal.returns-clause-weighed
 returns-clause-weighed g c = λ is yes.
@@ -146,5 +147,19 @@ returns-clause-weighed g c = λ is yes.
     let choice = c.requires.tried.board.laid.choice in
     let lt : v < length m.places = omega (arith, c.requires.within, choice.one_each) in
     let from = c.node_of-from.ensures ∙ ap (λ (l : List Place). (get_or l v no_place).0.0) c.as_slice.ensures in
-    let was = was_moved x c.args.self.now.board c.seat.new.self.mapping v c.args.place c.node_of-from.result.0 c.requires.tried.board lt c.seat.ensures.mapping from in
-    subst (λ (y : Mapping). IsNoLess s c.args.below y.places) c.seat.ensures.mapping (c.in_ok-settle_if.ensures.weighed c.if-branch.false yes m.places was)
+    let was = was_moved x c.args.self.now.board c.seat_told.new.self.mapping v c.args.place c.node_of-from.result.0 c.requires.tried.board lt c.seat_told.ensures.mapping from in
+    subst (λ (y : Mapping). IsNoLess s c.args.below y.places) c.seat_told.ensures.mapping (c.in_ok-settle_if.ensures.weighed c.if-branch.false yes m.places was)
+
+pub returns-then-is_told_dear-clause-dear : goal.returns-then-is_told_dear-clause-dear
+returns-then-is_told_dear-clause-dear g c = λ is m found.
+    let s = sought_of c.args.moves.now c.args.rule.now.number in
+    let places = set c.args.self.now.board.mapping.places c.args.node c.args.place in
+    let dear = told_dear s c.args.below places c.foretell-told.result c.is_told_dear.result c.foretell-told.ensures.parts c.is_told_dear.ensures.some c.is_told_dear.ensures.dear c.if-is_told_dear.true in
+    map_dear s c.args.below places m dear found
+
+pub returns-then-is_told_dear-clause-weighed : goal.returns-then-is_told_dear-clause-weighed
+returns-then-is_told_dear-clause-weighed g c = λ is yes plugs kept.
+    let s = sought_of c.args.moves.now c.args.rule.now.number in
+    let places = set c.args.self.now.board.mapping.places c.args.node c.args.place in
+    told_dear s c.args.below places c.foretell-told.result c.is_told_dear.result c.foretell-told.ensures.parts c.is_told_dear.ensures.some c.is_told_dear.ensures.dear c.if-is_told_dear.true
+    plugs kept.given

@@ -1,38 +1,78 @@
-use Rattle.std.proofs.Common.{◌≡◌, ◌<◌, ◌%◌, ◌∙◌, ℕ, List, [], length, get_or, Option, sym, ap, subst, arith}
+use Rattle.std.proofs.Common.{◌≡◌, ◌<◌, ◌%◌, ◌∙◌, ℕ, length, sym, ap, arith}
 use Rattle.virt_topo.specs.declared.mapping.Mapping.{Mapping}
-use Rattle.lab_model.specs.Shapes.{Place}
-use Rattle.lab_model.specs.Rules.{no_place}
 use Rattle.map_board.proofs.Choices.{choice_some}
-use Rattle.map_anneal.specs.declared.moves.Moves.{Moves}
-use Rattle.cost_rule.specs.declared.rule.RuleNumber.{RuleNumber}
-use Rattle.map_anneal.specs.Sought.{choices, moved}
+use Rattle.map_anneal.specs.Sought.{Sought, choices, candidates_at, moved}
 use Rattle.map_anneal.specs.Searches.{sought_of}
 use Rattle.map_anneal.specs.Walk.{named}
+use Rattle.map_anneal.proofs.RoomLaws.{moves_rooms, rooms_count, own_count, few_candidates}
+use Rattle.map_anneal.proofs.TriedMoves.{candidate_at}
 use Rattle.map_anneal.proofs.tried.Tried.named_if.Goals as goal
 
-pub candidate-place-requires-clause-some : goal.candidate-place-requires-clause-some
-candidate-place-requires-clause-some g c =
-    let cs = choices (sought_of c.args.moves.now c.args.rule.now.number) in
-    let v = c.args.first % c.len.result in
-    let within : v < length cs = omega (arith, c.len.ensures, ap length c.requires.moves.listed, c.requires.some) in
-    subst (λ (xs : List (List Place)). 0 < length (get_or xs v [])) (sym c.requires.moves.listed) (choice_some cs c.args.self.now.board.mapping.places v c.requires.tried.board.laid.choice within)
+pub number-number-requires-clause-some : goal.number-number-requires-clause-some
+number-number-requires-clause-some g c =
+    let moves = c.args.moves.now in
+    let cs = choices (sought_of moves c.args.rule.now.number) in
+    let v = c.virt-node.result in
+    let rooms = moves_rooms moves c.args.rule.now.number c.requires.moves in
+    let count = rooms_count moves.setting.mapper.lab.now cs moves.rooms.now rooms in
+    let within : v < length cs = omega (arith, c.virt-node.ensures, count, c.requires.some) in
+    let own = own_count moves.setting.mapper.lab.now cs moves.rooms.now v rooms within in
+    let some = choice_some cs c.args.self.now.board.mapping.places v c.requires.tried.board.laid.choice within in
+    omega (arith, own, some)
+
+pub number-number-requires-clause-few : goal.number-number-requires-clause-few
+number-number-requires-clause-few g c =
+    let moves = c.args.moves.now in
+    let s = sought_of moves c.args.rule.now.number in
+    let v = c.virt-node.result in
+    let rooms = moves_rooms moves c.args.rule.now.number c.requires.moves in
+    let count = rooms_count s.lab (choices s) moves.rooms.now rooms in
+    let within : v < length (choices s) = omega (arith, c.virt-node.ensures, count, c.requires.some) in
+    let own = own_count s.lab (choices s) moves.rooms.now v rooms within in
+    omega (arith, own, few_candidates s.lab s.free s.wiring v c.range-kept.ensures.lab within)
+
+pub move_if-requires-clause-number : goal.move_if-requires-clause-number
+move_if-requires-clause-number g c =
+    let moves = c.args.moves.now in
+    let cs = choices (sought_of moves c.args.rule.now.number) in
+    let v = c.virt-node.result in
+    let rooms = moves_rooms moves c.args.rule.now.number c.requires.moves in
+    let count = rooms_count moves.setting.mapper.lab.now cs moves.rooms.now rooms in
+    let within : v < length cs = omega (arith, c.virt-node.ensures, count, c.requires.some) in
+    let own = own_count moves.setting.mapper.lab.now cs moves.rooms.now v rooms within in
+    let some = choice_some cs c.args.self.now.board.mapping.places v c.requires.tried.board.laid.choice within in
+    omega (arith, c.number-number.ensures, own, some)
 
 -- the move that two words name
-named_is : (moves : Moves) (number : RuleNumber) (last : Mapping) (listed : List (List Place)) (first second n : ℕ) (p : Place) → listed ≡ choices (sought_of moves number) → n ≡ length listed
-    → p ≡ get_or (get_or listed (first % n) []) (second % length (get_or listed (first % n) [])) no_place → moved (sought_of moves number) last (first % n) p ≡ named (sought_of moves number) last first second
+named_is : (s : Sought) (last : Mapping) (first second v number : ℕ) → v ≡ first % length (choices s) → number ≡ second % length (candidates_at s v)
+    → moved s last v (candidate_at s v number) ≡ named s last first second
 unfolding named
-named_is moves number last listed first second n p is count at =
-    let s = sought_of moves number in
-    let from : List (List Place) → ℕ → Option Mapping =
-    λ xs k. moved s last (first % k) (get_or (get_or xs (first % k) []) (second % length (get_or xs (first % k) [])) no_place) in
-    ap (λ (q : Place). moved s last (first % n) q) at ∙ ap (λ (k : ℕ). from listed k) count ∙ (λ j. from (is j) (length (is j)))
+named_is s last first second v number at is =
+    ap (λ (k : ℕ). moved s last v (candidate_at s v k)) is ∙ ap (λ (u : ℕ). moved s last u (candidate_at s u (second % length (candidates_at s u)))) at
 
 pub returns-clause-map : goal.returns-clause-map
 returns-clause-map g c = λ is.
-    sym (named_is c.args.moves.now c.args.rule.now.number c.args.self.now.board.mapping c.args.moves.now.candidates.now c.args.first c.args.second c.len.result c.candidate-place.result c.requires.moves.listed c.len.ensures c.candidate-place.ensures.named)
+    let moves = c.args.moves.now in
+    let s = sought_of moves c.args.rule.now.number in
+    let v = c.virt-node.result in
+    let rooms = moves_rooms moves c.args.rule.now.number c.requires.moves in
+    let count = rooms_count s.lab (choices s) moves.rooms.now rooms in
+    let within : v < length (choices s) = omega (arith, c.virt-node.ensures, count, c.requires.some) in
+    let own = own_count s.lab (choices s) moves.rooms.now v rooms within in
+    sym (named_is s c.args.self.now.board.mapping c.args.first c.args.second v c.number-number.result
+    (c.virt-node.ensures ∙ ap (λ (n : ℕ). c.args.first % n) count) (c.number-number.ensures ∙ ap (λ (n : ℕ). c.args.second % n) own))
     ∙ c.in_ok-yes.ensures.map is
 
 pub returns-clause-dear : goal.returns-clause-dear
 returns-clause-dear g c = λ is m found.
+    let moves = c.args.moves.now in
+    let s = sought_of moves c.args.rule.now.number in
+    let v = c.virt-node.result in
+    let rooms = moves_rooms moves c.args.rule.now.number c.requires.moves in
+    let count = rooms_count s.lab (choices s) moves.rooms.now rooms in
+    let within : v < length (choices s) = omega (arith, c.virt-node.ensures, count, c.requires.some) in
+    let own = own_count s.lab (choices s) moves.rooms.now v rooms within in
     c.in_ok-yes.ensures.dear is m
-    (named_is c.args.moves.now c.args.rule.now.number c.args.self.now.board.mapping c.args.moves.now.candidates.now c.args.first c.args.second c.len.result c.candidate-place.result c.requires.moves.listed c.len.ensures c.candidate-place.ensures.named ∙ found)
+    (named_is s c.args.self.now.board.mapping c.args.first c.args.second v c.number-number.result
+    (c.virt-node.ensures ∙ ap (λ (n : ℕ). c.args.first % n) count) (c.number-number.ensures ∙ ap (λ (n : ℕ). c.args.second % n) own)
+    ∙ found)

@@ -21,6 +21,7 @@ returns-clause-laid c =
       choice = laid.choice;
       shaped = subst (λ (l : List IfaceId). IsShaped lab w (record { places = b.mapping.places; plugs = l })) (sym plugs) (planned_shaped x b laid c.requires.changes);
       seated = record {
+        homes = laid.seated.homes;
         one_each = laid.seated.one_each;
         guests = laid.seated.guests;
         nodes = laid.seated.nodes;

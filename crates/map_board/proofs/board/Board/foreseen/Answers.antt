@@ -1,4 +1,5 @@
 use Rattle.std.proofs.Common.{◌<◌, ◌∙◌, List, All, sym, subst, arith}
+use Rattle.virt_topo.specs.declared.limits.TheConstants.{MAX_SEGMENTS}
 use Rattle.virt_topo.proofs.CableLaws.{sound_limits}
 use Rattle.trunk_sums.specs.declared.made.Change.{Change}
 use Rattle.trunk_sums.specs.Totals.{used_of_all}
@@ -11,7 +12,7 @@ use Rattle.map_board.proofs.board.Board.foreseen.Goals as goal
 pub are_apart-requires : goal.are_apart-requires
 are_apart-requires c =
     let few = (sound_limits c.args.setting.now.mapper.wiring.now c.requires.setting.mapper.sound).segments in
-    subst (λ (l : List Change). All (λ (y : Change). y.row.segment < 512) l) (sym c.deref.ensures.value)
+    subst (λ (l : List Change). All (λ (y : Change). y.row.segment < MAX_SEGMENTS) l) (sym c.deref.ensures.value)
     (λ k d lt. (let here = (c.requires.changes.rows k d lt).segment in omega (arith, here, few)))
 
 pub returns-clause-parts : goal.returns-clause-parts

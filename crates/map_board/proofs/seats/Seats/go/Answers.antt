@@ -1,8 +1,8 @@
-use Rattle.std.proofs.Common.{◌≡◌, ◌<◌, ◌+◌, ◌-◌, ◌∙◌, ℕ, length, get_or, Bool, cond, eqb, map, refl, ap, sym, arith, ◌==◌}
+use Rattle.std.proofs.Common.{◌≡◌, ◌<◌, ◌+◌, ◌-◌, ◌∙◌, ℕ, List, length, get_or, Bool, cond, eqb, map, refl, ap, sym, arith, ◌==◌}
 use Rattle.std.specs.List.{remove, count_by}
 use Rattle.std.proofs.Math.ListN.{set}
 use Rattle.std.proofs.lemmas.Bool.{eq-eqb}
-use Rattle.std.proofs.lemmas.List.{length-set}
+use Rattle.std.proofs.lemmas.List.{length-set, map-set}
 use Rattle.virt_topo.specs.declared.mapping.Mapping.{Mapping}
 use Rattle.lab_model.specs.Shapes.{Place}
 use Rattle.lab_model.specs.Rules.{no_place}
@@ -51,6 +51,12 @@ join-requires-clause-few_nodes c =
     let nodes = c.requires.seated.nodes in
     let left = c.leave.ensures.nodes in
     omega (arith, few, nodes, left)
+
+pub returns-clause-homes : goal.returns-clause-homes
+returns-clause-homes c =
+    let m = c.args.mapping.now in
+    ap (λ (l : List ℕ). set l c.args.virt c.args.place.0.0) (ap (λ y. y.items) (c.join.ensures.homes ∙ c.leave.ensures.homes) ∙ c.requires.seated.homes)
+    ∙ sym (map-set (λ (p : Place). p.0.0) m.places c.args.virt c.args.place)
 
 pub returns-clause-one_each : goal.returns-clause-one_each
 returns-clause-one_each c =

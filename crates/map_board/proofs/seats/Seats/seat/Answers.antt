@@ -62,7 +62,8 @@ returns-clause-seated c =
     let soft = c.requires.seated.soft in
     let kept = c.go.ensures.soft in
     let sum = c.changed-self.ensures in
-    subst (λ (y : Mapping). IsSeated lab w y (record { guests = c.go.new.self.guests; nodes = c.go.new.self.nodes; members = c.go.new.self.members; soft = c.changed-self.result })) (sym c.go.ensures.mapping) (record {
+    subst (λ (y : Mapping). IsSeated lab w y (record { homes = c.go.new.self.homes; guests = c.go.new.self.guests; nodes = c.go.new.self.nodes; members = c.go.new.self.members; soft = c.changed-self.result })) (sym c.go.ensures.mapping) (record {
+      homes = c.go.ensures.homes;
       one_each = c.go.ensures.one_each;
       guests = c.go.ensures.guests;
       nodes = c.go.ensures.nodes;

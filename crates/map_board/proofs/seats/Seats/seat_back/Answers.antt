@@ -14,7 +14,8 @@ pub returns-clause-seated : goal.returns-clause-seated
 returns-clause-seated c =
     let lab = c.args.lab.now in
     let w = c.args.wiring.now in
-    subst (λ (y : Mapping). IsSeated lab w y (record { guests = c.go.new.self.guests; nodes = c.go.new.self.nodes; members = c.go.new.self.members; soft = c.args.soft })) (sym c.go.ensures.mapping) (record {
+    subst (λ (y : Mapping). IsSeated lab w y (record { homes = c.go.new.self.homes; guests = c.go.new.self.guests; nodes = c.go.new.self.nodes; members = c.go.new.self.members; soft = c.args.soft })) (sym c.go.ensures.mapping) (record {
+      homes = c.go.ensures.homes;
       one_each = c.go.ensures.one_each;
       guests = c.go.ensures.guests;
       nodes = c.go.ensures.nodes;

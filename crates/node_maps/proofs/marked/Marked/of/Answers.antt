@@ -1,4 +1,4 @@
-use Rattle.std.proofs.Common.{◌≡◌, ◌∙◌, ◌<◌, [], ℕ, Bool, List, length, get_or, ap, sym, arith}
+use Rattle.std.proofs.Common.{◌≡◌, ◌∙◌, ◌<◌, [], ℕ, List, length, get_or, ap, sym, arith}
 use Rattle.std.proofs.lemmas.List.{length-map, get_or-map, get_or_default}
 use Rattle.node_maps.proofs.marked.Marked.of.Goals as goal
 
@@ -16,4 +16,4 @@ returns c =
     c.list_of.ensures
     ∙ (λ j. get_or (c.deref.ensures.value j) (kind j) [])
     ∙ sym (get_or-map (λ (k : ℕ). get_or x.lists.items k []) x.kinds.items v 0 [] lt)
-    ∙ ap (λ (l : List (List Bool)). get_or l v []) c.self.view_is
+    ∙ ap (λ (l : List (List ℕ)). get_or l v []) c.self.view_is

@@ -30,6 +30,9 @@ kbps_of-requires-2 c =
     let own = own_limits w w.segments row.segment s refl c.requires.limits c.requires.row.segment (get_or_default w.segments row.segment no_segment s c.requires.row.segment) in
     omega (arith, own.slow, c.requires.row.kbps)
 
+pub returns-clause-few : goal.returns-clause-few
+returns-clause-few c = few_trunks c.args.lab.now c.range-kept.ensures.lab
+
 pub returns-clause-is : goal.returns-clause-is
 returns-clause-is c others count own =
     let lab = c.args.lab.now in
