@@ -58,7 +58,8 @@ pub record AreLinesOf (lab : Lab) (es : List Experiment) (w : World) (switch : L
 -- those of switches, one after another
 abbrev pub AreLines : Lab → List Experiment → World → List (List ℕ) → List AuditLine → Type 0
 AreLines lab es w [] lines = lines ≡ []
-AreLines lab es w (switch ∷ switches) lines = (own : List AuditLine) × (rest : List AuditLine) × AreLinesOf lab es w switch own × AreLines lab es w switches rest × (lines ≡ own ++ rest)
+AreLines lab es w (switch ∷ switches) lines =
+    (own : List AuditLine) × (rest : List AuditLine) × AreLinesOf lab es w switch own × AreLines lab es w switches rest × (lines ≡ own ++ rest)
 
 -- A NODE DIFFERS: an experiment that is in has it, and it isn't as that one wants it; or nobody claims it, and it isn't wiped
 pub data Differs (lab : Lab) (es : List Experiment) (w : World) (name : List ℕ) : Type 0 where
