@@ -12,7 +12,7 @@ use Rattle.lab_model.specs.Shapes.{Place}
 use Rattle.node_maps.specs.NodeMaps.{IsChoice}
 use Rattle.node_maps.specs.Least.{IsFirstLeast}
 use Rattle.node_maps.proofs.Leasts.{least_alone, least_kept, least_taken}
-use Rattle.map_anneal.specs.declared.search.Priced.{Priced}
+use Rattle.map_anneal.specs.declared.priced.Priced.{Priced}
 use Rattle.map_anneal.specs.Sought.{Sought, mapped, price}
 use Rattle.map_anneal.specs.Searches.{IsPriced}
 use Rattle.assign_core.specs.Bests.{IsBest, IsPartial, is_below}

@@ -1,33 +1,54 @@
 -- FirstFit, one virtual node more.
-use Rattle.std.proofs.Common.{◌≡◌, ◌<◌, ◌∙◌, ◌+◌, ◌++◌, ◌∷◌, [], ℕ, List, length, drop, map, get_or, All, Contains, Bool, true, false, cond, Option, Some, None, IfSome, refl, sym, ap, subst, suc, arith}
+use Rattle.std.proofs.Common.{◌≡◌, ◌<◌, ◌∙◌, ◌+◌, ◌++◌, ◌∷◌, [], ℕ, List, length, drop, get_or, Contains, Bool, true, false, cond, ◌&&◌, Option, Some, None, IfSome, refl, sym, ap, subst, suc, arith}
 use Rattle.std.specs.List.{find}
-use Rattle.std.specs.Option.{option_and_then}
-use Rattle.std.proofs.lemmas.Bool.{cond_both, cond-true, cond-false}
+use Rattle.std.specs.Option.{option_and_then, is_some}
+use Rattle.std.proofs.lemmas.Bool.{cond_both}
+use Rattle.std.proofs.lemmas.List.{drop_more}
 use Rattle.phys_lab.specs.Labs.{Lab}
 use Rattle.std.proofs.lemmas.Option.{option_and_then_some}
 use Rattle.phys_lab.specs.declared.free.Free.{Free}
 use Rattle.virt_topo.specs.declared.mapping.Mapping.{Mapping}
-use Rattle.virt_topo.specs.declared.wiring.VirtNode.{VirtNode}
-use Rattle.std.proofs.lemmas.List.Elements.{All-map, All-filter}
 use Rattle.lab_base.proofs.Lists.{item_at}
-use Rattle.node_maps.proofs.Places.{all_places}
-use Rattle.node_maps.specs.NodeMaps.{candidates, candidates_of, is_candidate, lab_places, IsChoice, node_map}
+use Rattle.node_maps.specs.NodeMaps.{candidates, IsChoice, node_map, plugs_of}
+use Rattle.node_maps.specs.Moved.{may_share}
 use Rattle.node_maps.proofs.MapLaws.{mapped_is}
 use Rattle.virt_topo.specs.declared.wiring.Wiring.{Wiring}
 use Rattle.lab_model.specs.Shapes.{Place}
-use Rattle.assign_core.specs.Exact.{fits_next, first_fit_from, first_fit}
+use Rattle.lab_model.specs.Rules.{no_place}
+use Rattle.assign_core.specs.Exact.{fits_next, if_fits, first_fit_from, first_fit}
 use Rattle.assign_core.proofs.Choosing.{get_or_here}
 
 pub first_step : (lab : Lab) (w : Wiring) (places : List Place) (cs : List (List Place)) (i : ℕ) → i < length cs
     → first_fit_from lab w places (drop i cs) ≡ option_and_then (λ p. first_fit_from lab w (places ++ p ∷ []) (drop (i + 1) cs)) (find (λ p. fits_next lab w places p) (get_or cs i []))
 first_step lab w places cs i lt = ap (first_fit_from lab w places) (item_at cs i (get_or cs i []) lt (get_or_here cs i lt))
 
--- the next one passes, or it doesn't
-pub find_here : (f : Place → Bool) (xs : List Place) (i : ℕ) (p : Place) → i < length xs → p ≡ get_or xs i p → f p ≡ true → find f (drop i xs) ≡ Some p
-find_here f xs i p lt is passed = ap (find f) (item_at xs i p lt is) ∙ cond-true (f p) (Some p) (find f (drop (i + 1) xs)) passed
+-- the next one is looked at
+find_step : (f : Place → Bool) (xs : List Place) (i : ℕ) → i < length xs → find f (drop i xs) ≡ cond (f (get_or xs i no_place)) (Some (get_or xs i no_place)) (find f (drop (i + 1) xs))
+find_step f xs i lt = ap (find f) (drop_more xs i no_place lt)
 
-pub find_later : (f : Place → Bool) (xs : List Place) (i : ℕ) (p : Place) → i < length xs → p ≡ get_or xs i p → f p ≡ false → find f (drop i xs) ≡ find f (drop (i + 1) xs)
-find_later f xs i p lt is failed = ap (find f) (item_at xs i p lt is) ∙ cond-false (f p) (Some p) (find f (drop (i + 1) xs)) failed
+-- it fits, or it doesn't
+pub some_fits : (lab : Lab) (w : Wiring) (places own : List Place) (i : ℕ) (p : Place) → i < length own → if_fits lab w places (get_or own i no_place) ≡ Some p
+    → find (λ q. fits_next lab w places q) (drop i own) ≡ Some p
+some_fits lab w places own i p lt is = find_step (λ q. fits_next lab w places q) own i lt ∙ by (fits_next lab w places (get_or own i no_place)) is
+  where
+    by : (b : Bool) → cond b (Some (get_or own i no_place)) None ≡ Some p → cond b (Some (get_or own i no_place)) (find (λ q. fits_next lab w places q) (drop (i + 1) own)) ≡ Some p
+    by true found = found
+    by false found = absurd (cc found)
+
+pub none_fits : (lab : Lab) (w : Wiring) (places own : List Place) (i : ℕ) → i < length own → if_fits lab w places (get_or own i no_place) ≡ None
+    → find (λ q. fits_next lab w places q) (drop i own) ≡ find (λ q. fits_next lab w places q) (drop (i + 1) own)
+none_fits lab w places own i lt is = find_step (λ q. fits_next lab w places q) own i lt ∙ by (fits_next lab w places (get_or own i no_place)) is
+  where
+    rest : Option Place
+    rest = find (λ q. fits_next lab w places q) (drop (i + 1) own)
+
+    by : (b : Bool) → cond b (Some (get_or own i no_place)) None ≡ None → cond b (Some (get_or own i no_place)) rest ≡ rest
+    by true none = absurd (cc none)
+    by false none = refl
+
+-- no more may be on its node
+pub full_fits_none : (lab : Lab) (w : Wiring) (places : List Place) (p : Place) → may_share lab w (places ++ p ∷ []) p.0.0 ≡ false → None ≡ if_fits lab w places p
+full_fits_none lab w places p full = ap (λ (b : Bool). cond (b && is_some (plugs_of lab w (places ++ p ∷ []))) (Some p) None) (sym full)
 
 pub find_among : (f : Place → Bool) (xs : List Place) (p : Place) → find f xs ≡ Some p → Contains xs p
 find_among f [] p e = absurd (cc e)
@@ -57,14 +78,3 @@ unfolding first_fit
 first_fit_mapped lab free w m e =
     option_and_then_some (λ places. node_map lab free w places) (first_fit_from lab w [] (candidates lab free w)) m e
     (λ places _ is. ap (λ ps. node_map lab free w ps) (mapped_is lab free w places m is).same_places ∙ is)
-
--- each candidate is on a node of the lab
-pub candidates_within : (lab : Lab) (free : Free) (w : Wiring) (v : ℕ) → v < length (candidates lab free w)
-    → All (λ (p : Place). p.0.0 < length lab.nodes) (get_or (candidates lab free w) v [])
-unfolding candidates
-candidates_within lab free w v lt =
-    let On : Place → Type 0 = λ p. p.0.0 < length lab.nodes in
-    let of : VirtNode → List Place = λ x. candidates_of lab free w x in
-    let each : All (λ c. All On c) (map of w.nodes) =
-    All-map (λ c. All On c) of w.nodes (λ k d h. All-filter (λ p. is_candidate lab free w (get_or w.nodes k d) p) On (lab_places lab) (all_places lab).in_nodes) in
-    each v [] lt

@@ -3,7 +3,7 @@ use Rattle.std.specs.Prelude.{◌≡◌, ◌≤◌, ◌<◌, ℕ, List, [], leng
 use Rattle.virt_topo.specs.declared.mapping.Mapping.{Mapping}
 use Rattle.lab_model.specs.Shapes.{Place}
 use Rattle.node_maps.specs.Least.{IsFirstLeast}
-use Rattle.map_anneal.specs.declared.search.Priced.{Priced}
+use Rattle.map_anneal.specs.declared.priced.Priced.{Priced}
 use Rattle.map_anneal.specs.Sought.{Sought, price}
 use Rattle.map_anneal.specs.Searches.{IsPriced}
 

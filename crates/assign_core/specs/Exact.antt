@@ -1,5 +1,5 @@
 -- All node maps in candidate order, FirstFit, and the answers that are allowed.
-use Rattle.std.specs.Prelude.{◌≡◌, ℕ, ◌*◌, ◌<◌, ◌≤◌, List, [], ◌∷◌, ◌++◌, length, map, Bool, ◌&&◌, Option, Some, None, option_and_then, is_some, All}
+use Rattle.std.specs.Prelude.{◌≡◌, ℕ, ◌*◌, ◌<◌, ◌≤◌, List, [], ◌∷◌, ◌++◌, length, map, Bool, ◌&&◌, Option, Some, None, option_and_then, is_some, if◌then◌else◌, All}
 use Rattle.std.specs.List.{flat_map, filter_map, find}
 use Rattle.phys_lab.specs.Labs.{Lab}
 use Rattle.phys_lab.specs.declared.free.Free.{Free}
@@ -42,6 +42,10 @@ IsCheapestOf s maps (Some best) = IsFirstLeast (price s) maps best.0 × (best.1 
 -- serves all their ends
 abbrev pub fits_next : Lab → Wiring → List Place → Place → Bool
 fits_next lab w places p = may_share lab w (places ++ p ∷ []) p.0.0 && is_some (plugs_of lab w (places ++ p ∷ []))
+
+-- the place, where the next virtual node fits at it
+abbrev pub if_fits : Lab → Wiring → List Place → Place → Option Place
+if_fits lab w places p = if fits_next lab w places p then Some p else None
 
 -- FirstFit: each further virtual node takes its first candidate that fits
 abbrev pub first_fit_from : Lab → Wiring → List Place → List (List Place) → Option (List Place)

@@ -3,12 +3,13 @@ ghost use Rattle.std.specs.Prelude.{◌≡◌, ◌<◌, false, [], length, All, 
 ghost use Rattle.lab_model.specs.Shapes.{IsShaped};
 ghost use Rattle.cost_rule.specs.declared.rule.RuleNumber.{RuleNumber as AnyNumber};
 ghost use Rattle.node_maps.specs.NodeMaps.{IsChoice, candidates};
-ghost use Rattle.map_anneal.specs.Searches.{sought_of, IsMoves};
+ghost use Rattle.map_state.specs.Tables.{IsSearch};
+ghost use Rattle.map_anneal.specs.Searches.{sought_of};
 ghost use Rattle.assign_core.specs.Exact.{node_maps};
 ghost use Rattle.assign_core.specs.Begun.{HasNone};
 
 use lab_base::{IfaceId, Items, Memory};
-use map_anneal::Moves;
+use map_state::Search;
 use node_maps::{Candidates, Place};
 use phys_lab::Lab;
 use std::alloc::Global;
@@ -24,7 +25,7 @@ fn first_places(alloc: Global, listed: &Candidates) -> Result<Option<Items<Place
         if listed.count(virt) == 0 {
             return Ok(None);
         }
-        places.push(listed.at(virt, 0))?;
+        places.push(*listed.at(virt, 0))?;
     }
     Ok(Some(places))
 }
@@ -54,15 +55,15 @@ fn any_plugs(alloc: Global, lab: &Lab, ends: usize) -> Result<Option<Items<Iface
 
 /// The first candidate of each virtual node, with any plugs; None where there is no node map for want of candidates or of
 /// interfaces.
-pub(crate) fn first_choice(alloc: Global, moves: &Moves) -> Result<Option<Mapping>, Memory>
-    requires moves { IsMoves moves.now }
-    ensures choice { IfOk result (λ found. IfSome found (λ m. IsChoice (candidates moves.now.setting.mapper.lab.now moves.now.setting.mapper.free.now
-        moves.now.setting.mapper.wiring.now) m.places)) }
-    ensures shaped { IfOk result (λ found. IfSome found (IsShaped moves.now.setting.mapper.lab.now moves.now.setting.mapper.wiring.now)) }
-    ensures none { IfOk result (λ found. found ≡ None → (number : AnyNumber) → node_maps (sought_of moves.now number) ≡ []) }
+pub(crate) fn first_choice(alloc: Global, search: &Search) -> Result<Option<Mapping>, Memory>
+    requires search { IsSearch search.now }
+    ensures choice { IfOk result (λ found. IfSome found (λ m. IsChoice (candidates search.now.mapper.lab.now search.now.mapper.free.now
+        search.now.mapper.wiring.now) m.places)) }
+    ensures shaped { IfOk result (λ found. IfSome found (IsShaped search.now.mapper.lab.now search.now.mapper.wiring.now)) }
+    ensures none { IfOk result (λ found. found ≡ None → (number : AnyNumber) → node_maps (sought_of search.now number) ≡ []) }
 {
-    let mapper = moves.setting.mapper;
-    let Some(places) = first_places(alloc, moves.candidates)? else {
+    let mapper = search.mapper;
+    let Some(places) = first_places(alloc, search.candidates)? else {
         return Ok(None);
     };
     let Some(plugs) = any_plugs(alloc, mapper.lab, mapper.ends.len())? else {

@@ -4,18 +4,19 @@ ghost use Rattle.std.specs.List.{filter_map, cons_option};
 ghost use Rattle.virt_topo.specs.declared.mapping.Mapping.{Mapping as MappingValue};
 ghost use Rattle.virt_topo.specs.Soundness.{IsSound};
 ghost use Rattle.lab_model.specs.Shapes.{IsFreeOf};
-ghost use Rattle.map_board.specs.Chosen.{IsChosen};
-ghost use Rattle.map_board.specs.Boards.{IsLaid};
+ghost use Rattle.map_state.specs.Chosen.{IsChosen};
+ghost use Rattle.map_state.specs.States.{IsMapState};
+ghost use Rattle.map_state.specs.Tables.{IsSearch};
 ghost use Rattle.map_anneal.specs.Sought.{sought, choices, mapped, price, IsNodeMap};
-ghost use Rattle.map_anneal.specs.Searches.{sought_of, IsMoves, IsPriced};
+ghost use Rattle.map_anneal.specs.Searches.{sought_of, IsPriced};
 ghost use Rattle.assign_core.specs.Bests.{IsBest, is_below};
 ghost use Rattle.assign_core.specs.Exact.{all_choices, count, node_maps, IsCheapestOf};
 
 use crate::begin::first_choice;
 use cost_rule::StepRule;
 use lab_base::Memory;
-use map_anneal::{Moves, Prepared, Priced};
-use map_board::{Board, Chosen};
+use map_anneal::{Prepared, Priced, cost_of};
+use map_state::{Chosen, MapState, Search};
 use phys_lab::{Free, Lab};
 use std::alloc::Global;
 use virt_topo::{Mapping, Wiring};
@@ -34,14 +35,14 @@ fn is_below(cost: u64, best: &Option<Priced>) -> bool
 }
 
 /// The cost of a map that is taken: the rule's step from the best one so far answers it, and the rule that of the first one.
-fn taken_cost(moves: &Moves, rule: &StepRule, board: &Board, best: &Option<Priced>) -> u64
-    requires moves { IsMoves moves.now }
-    requires laid { IsLaid moves.now.setting board.now }
-    requires best { IfSome best.now (IsPriced (sought_of moves.now rule.now.number)) }
-    ensures { result ≡ price (sought_of moves.now rule.now.number) board.now.mapping }
+fn taken_cost(search: &Search, rule: &StepRule, state: &MapState, best: &Option<Priced>) -> u64
+    requires search { IsSearch search.now }
+    requires state { IsMapState search.now state.now }
+    requires best { IfSome best.now (IsPriced (sought_of search.now rule.now.number)) }
+    ensures { result ≡ price (sought_of search.now rule.now.number) state.now.mapping }
 {
-    let mapper = moves.setting.mapper;
-    let next = &board.mapping;
+    let mapper = search.mapper;
+    let next = &state.mapping;
     match best {
         Some(kept) => rule.ask_step(mapper.lab, mapper.wiring, &kept.mapping, next, kept.cost),
         None => rule.ask(mapper.lab, mapper.wiring, next),
@@ -51,62 +52,62 @@ fn taken_cost(moves: &Moves, rule: &StepRule, board: &Board, best: &Option<Price
 /// The best map after the one that is chosen, if it is one.
 fn weigh(
     alloc: Global,
-    moves: &Moves,
+    search: &Search,
     rule: &StepRule,
     chosen: &mut Chosen,
     best: Option<Priced>,
 ) -> Result<Option<Priced>, Memory>
-    requires moves { IsMoves moves.now }
-    requires chosen { IsChosen moves.now.setting chosen.old }
-    requires priced { IfSome best (IsPriced (sought_of moves.now rule.now.number)) }
-    ensures chosen { OnOk result (IsChosen moves.now.setting chosen.new) }
-    ensures places { OnOk result (chosen.new.board.mapping.places ≡ chosen.old.board.mapping.places) }
-    ensures priced { IfOk result (λ after. IfSome after (IsPriced (sought_of moves.now rule.now.number))) }
-    ensures best { IfOk result (λ after. (maps : List MappingValue) → IsBest (sought_of moves.now rule.now.number) maps best
-        → IsBest (sought_of moves.now rule.now.number)
-        (maps ++ cons_option (mapped (sought_of moves.now rule.now.number) chosen.old.board.mapping.places) []) after) }
+    requires search { IsSearch search.now }
+    requires chosen { IsChosen search.now chosen.old }
+    requires priced { IfSome best (IsPriced (sought_of search.now rule.now.number)) }
+    ensures chosen { OnOk result (IsChosen search.now chosen.new) }
+    ensures places { OnOk result (chosen.new.state.mapping.places ≡ chosen.old.state.mapping.places) }
+    ensures priced { IfOk result (λ after. IfSome after (IsPriced (sought_of search.now rule.now.number))) }
+    ensures best { IfOk result (λ after. (maps : List MappingValue) → IsBest (sought_of search.now rule.now.number) maps best
+        → IsBest (sought_of search.now rule.now.number)
+        (maps ++ cons_option (mapped (sought_of search.now rule.now.number) chosen.old.state.mapping.places) []) after) }
 {
-    if !chosen.is_map(alloc, &moves.setting)? {
+    if !chosen.is_map(alloc, search)? {
         return Ok(best);
     }
-    if !is_below(moves.cost(rule, &chosen.board), &best) {
+    if !is_below(cost_of(search, rule, &chosen.state), &best) {
         return Ok(best);
     }
-    let cost = taken_cost(moves, rule, &chosen.board, &best);
-    let mapping = chosen.board.mapping.copy(alloc)?;
+    let cost = taken_cost(search, rule, &chosen.state, &best);
+    let mapping = chosen.state.mapping.copy(alloc)?;
     Ok(Some(Priced { mapping, cost }))
 }
 
 /// The best map after all those that begin with the first places of the one that is chosen.
 fn explore(
     alloc: Global,
-    moves: &Moves,
+    search: &Search,
     rule: &StepRule,
     begun: usize,
     chosen: &mut Chosen,
     best: Option<Priced>,
 ) -> Result<Option<Priced>, Memory>
-    requires moves { IsMoves moves.now }
-    requires chosen { IsChosen moves.now.setting chosen.old }
-    requires begun { begun ≤ length (choices (sought_of moves.now rule.now.number)) }
-    requires priced { IfSome best (IsPriced (sought_of moves.now rule.now.number)) }
-    ensures chosen { OnOk result (IsChosen moves.now.setting chosen.new) }
-    ensures places { OnOk result (take begun chosen.new.board.mapping.places ≡ take begun chosen.old.board.mapping.places) }
-    ensures priced { IfOk result (λ after. IfSome after (IsPriced (sought_of moves.now rule.now.number))) }
-    ensures best { IfOk result (λ after. (maps : List MappingValue) → IsBest (sought_of moves.now rule.now.number) maps best
-        → IsBest (sought_of moves.now rule.now.number)
-        (maps ++ filter_map (λ p. mapped (sought_of moves.now rule.now.number) p)
-        (all_choices (take begun chosen.old.board.mapping.places ∷ []) (drop begun (choices (sought_of moves.now rule.now.number))))) after) }
+    requires search { IsSearch search.now }
+    requires chosen { IsChosen search.now chosen.old }
+    requires begun { begun ≤ length (choices (sought_of search.now rule.now.number)) }
+    requires priced { IfSome best (IsPriced (sought_of search.now rule.now.number)) }
+    ensures chosen { OnOk result (IsChosen search.now chosen.new) }
+    ensures places { OnOk result (take begun chosen.new.state.mapping.places ≡ take begun chosen.old.state.mapping.places) }
+    ensures priced { IfOk result (λ after. IfSome after (IsPriced (sought_of search.now rule.now.number))) }
+    ensures best { IfOk result (λ after. (maps : List MappingValue) → IsBest (sought_of search.now rule.now.number) maps best
+        → IsBest (sought_of search.now rule.now.number)
+        (maps ++ filter_map (λ p. mapped (sought_of search.now rule.now.number) p)
+        (all_choices (take begun chosen.old.state.mapping.places ∷ []) (drop begun (choices (sought_of search.now rule.now.number))))) after) }
 {
-    if begun == moves.candidates.len() {
-        let after = weigh(alloc, moves, rule, chosen, best)?;
+    if begun == search.candidates.len() {
+        let after = weigh(alloc, search, rule, chosen, best)?;
         return Ok(after);
     }
     let mut kept = best;
-    for number in 0..moves.candidates.count(begun) {
-        let place = moves.candidates.at(begun, number);
-        chosen.put(alloc, &moves.setting, begun, place);
-        kept = explore(alloc, moves, rule, begun + 1, chosen, kept)?;
+    for number in 0..search.candidates.count(begun) {
+        let place = *search.candidates.at(begun, number);
+        chosen.put(alloc, search, begun, place);
+        kept = explore(alloc, search, rule, begun + 1, chosen, kept)?;
     }
     Ok(kept)
 }
@@ -115,18 +116,18 @@ fn explore(
 #[tactic(auto, unfolding(crate::specs::Exact::node_maps))]
 pub(crate) fn best_by(
     alloc: Global,
-    moves: &Moves,
+    search: &Search,
     rule: &StepRule,
 ) -> Result<Option<(Mapping, u64)>, Memory>
-    requires moves { IsMoves moves.now }
-    ensures cheapest { IfOk result (λ best. IsCheapestOf (sought_of moves.now rule.now.number) (node_maps (sought_of moves.now rule.now.number)) best) }
-    ensures node_map { IfOk result (λ best. IfSome best (λ found. IsNodeMap (sought_of moves.now rule.now.number) found.0)) }
+    requires search { IsSearch search.now }
+    ensures cheapest { IfOk result (λ best. IsCheapestOf (sought_of search.now rule.now.number) (node_maps (sought_of search.now rule.now.number)) best) }
+    ensures node_map { IfOk result (λ best. IfSome best (λ found. IsNodeMap (sought_of search.now rule.now.number) found.0)) }
 {
-    let Some(start) = first_choice(alloc, moves)? else {
+    let Some(start) = first_choice(alloc, search)? else {
         return Ok(None);
     };
-    let mut chosen = Chosen::of(alloc, &moves.setting, &start)?;
-    let explored = explore(alloc, moves, rule, 0, &mut chosen, None);
+    let mut chosen = Chosen::of(alloc, search, &start)?;
+    let explored = explore(alloc, search, rule, 0, &mut chosen, None);
     drop(chosen);
     let found = explored?;
     match found {
@@ -150,7 +151,7 @@ pub fn best_of_all(
         (node_maps (sought lab.now free.now wiring.now rule.now.number)) best) }
 {
     let prepared = Prepared::of(alloc, lab, free, wiring)?;
-    let moves = prepared.moves(lab, free, wiring);
-    let best = best_by(alloc, &moves, rule)?;
+    let search = prepared.search(lab, free, wiring);
+    let best = best_by(alloc, &search, rule)?;
     Ok(best)
 }

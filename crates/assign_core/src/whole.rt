@@ -3,16 +3,18 @@ ghost use Rattle.std.specs.Prelude.{◌≡◌, ◌≤◌, ◌+◌, ◌*◌, ◌�
 ghost use Rattle.virt_topo.specs.Soundness.{IsSound};
 ghost use Rattle.lab_model.specs.Feasible.{IsFeasible};
 ghost use Rattle.lab_model.specs.Shapes.{IsFreeOf, IsShaped};
+ghost use Rattle.map_state.specs.Tables.{IsSearch};
 ghost use Rattle.map_anneal.specs.Sought.{sought};
-ghost use Rattle.map_anneal.specs.Searches.{IsPrepared};
+ghost use Rattle.map_anneal.specs.Searches.{sought_of};
 ghost use Rattle.assign_core.specs.Exact.{count, IfFound, IsAllowed};
 
 use crate::exact::{MAX_CHOICES, best_by};
-use crate::first::{Placing, fit_by};
+use crate::first::fit_by;
 use cost_rule::StepRule;
 use lab_base::Memory;
 use map_anneal::{Prepared, anneal_by, descend_by};
-use node_maps::{Candidates, Mapper};
+use map_state::Search;
+use node_maps::Candidates;
 use phys_lab::{Free, Lab};
 use std::alloc::Global;
 use virt_topo::{Mapping, Wiring};
@@ -49,46 +51,25 @@ pub fn are_few(listed: &Candidates) -> bool
 }
 
 /// The whole search, by what is prepared.
-fn solve_by(
-    alloc: Global,
-    lab: &Lab,
-    free: &Free,
-    wiring: &Wiring,
-    prepared: &Prepared,
-    rule: &StepRule,
-    seed: u64,
-) -> Result<Solved, Memory>
-    requires free { IsFreeOf lab.now free.now }
-    requires sound { IsSound wiring.now }
-    requires prepared { IsPrepared lab.now free.now wiring.now prepared.now }
-    ensures allowed { IfOk result (λ solved. IsAllowed (sought lab.now free.now wiring.now rule.now.number) seed solved) }
-    ensures shaped { IfOk result (λ solved. IfFound solved (IsShaped lab.now wiring.now)) }
-    ensures feasible { IfOk result (λ solved. IfFound solved (IsFeasible lab.now free.now wiring.now)) }
+fn solve_by(alloc: Global, search: &Search, rule: &StepRule, seed: u64) -> Result<Solved, Memory>
+    requires search { IsSearch search.now }
+    ensures allowed { IfOk result (IsAllowed (sought_of search.now rule.now.number) seed) }
+    ensures shaped { IfOk result (λ solved. IfFound solved (IsShaped search.now.mapper.lab.now search.now.mapper.wiring.now)) }
+    ensures feasible { IfOk result (λ solved. IfFound solved (IsFeasible search.now.mapper.lab.now search.now.mapper.free.now search.now.mapper.wiring.now)) }
 {
-    let moves = prepared.moves(lab, free, wiring);
-    if are_few(moves.candidates) {
-        let Some((mapping, cost)) = best_by(alloc, &moves, rule)? else {
+    if are_few(search.candidates) {
+        let Some((mapping, cost)) = best_by(alloc, search, rule)? else {
             return Ok(Solved::None);
         };
         return Ok(Solved::Least(mapping, cost));
     }
-    let mapper = Mapper {
-        lab,
-        free,
-        wiring,
-        ends: &prepared.ends,
-        ifaces: moves.setting.mapper.ifaces,
-    };
-    let placing = Placing {
-        mapper,
-        candidates: &prepared.candidates,
-    };
-    let Some(start) = fit_by(alloc, &placing)? else {
+    let Some(start) = fit_by(alloc, search)? else {
         return Ok(Solved::GaveUp);
     };
-    let annealed = anneal_by(alloc, &moves, &start, rule, seed)?;
-    let lowest = descend_by(alloc, &moves, &annealed, rule)?;
-    let cost = rule.ask(lab, wiring, &lowest);
+    let annealed = anneal_by(alloc, search, &start, rule, seed)?;
+    let lowest = descend_by(alloc, search, &annealed, rule)?;
+    let mapper = search.mapper;
+    let cost = rule.ask(mapper.lab, mapper.wiring, &lowest);
     Ok(Solved::Local(lowest, cost))
 }
 
@@ -110,7 +91,8 @@ pub fn solve(
     ensures feasible { IfOk result (λ solved. IfFound solved (IsFeasible lab.now free.now wiring.now)) }
 {
     let prepared = Prepared::of(alloc, lab, free, wiring)?;
-    let solved = solve_by(alloc, lab, free, wiring, &prepared, rule, seed);
+    let search = prepared.search(lab, free, wiring);
+    let solved = solve_by(alloc, &search, rule, seed);
     drop(prepared);
     solved
 }

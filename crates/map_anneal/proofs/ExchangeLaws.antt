@@ -15,11 +15,11 @@ use Rattle.cost_rule.specs.Cost.{missed, sum_below, class_soft}
 use Rattle.node_maps.specs.NodeMaps.{candidates, ends_of, IsChoice}
 use Rattle.node_maps.specs.Moved.{AlikeBut}
 use Rattle.node_maps.proofs.MapLaws.{choice_within}
-use Rattle.map_board.specs.Nodes.{no_end}
-use Rattle.map_board.specs.Seated.{placed_at, asked_soft}
-use Rattle.map_board.proofs.Alikes.{alike_exchanged}
-use Rattle.map_board.proofs.Choices.{choice_exchanged}
-use Rattle.map_board.proofs.SeatLaws.{soft_after}
+use Rattle.map_state.specs.Nodes.{no_end}
+use Rattle.map_state.specs.Hosted.{placed_at, asked_soft}
+use Rattle.map_state.proofs.Alikes.{alike_exchanged}
+use Rattle.map_state.proofs.Choices.{choice_exchanged}
+use Rattle.map_state.proofs.HostingLaws.{soft_after}
 use Rattle.map_anneal.specs.Weighed.{swapped}
 use Rattle.map_anneal.proofs.Frames.{IsOff, AlikeOn, end_place, AreClassesAlike}
 use Rattle.map_anneal.proofs.MoveReads.{ExchangeAlike}

@@ -11,7 +11,7 @@ use Rattle.cost_rule.specs.Cost.{sum_below, class_soft}
 use Rattle.node_maps.specs.NodeMaps.{ends_of, plugs_of}
 use Rattle.node_maps.specs.Moved.{AlikeBut, IsOn}
 use Rattle.trunk_sums.proofs.Replugged.{IsIn}
-use Rattle.map_board.specs.Nodes.{no_end}
+use Rattle.map_state.specs.Nodes.{no_end}
 use Rattle.map_anneal.proofs.Switches.{AreAlikeAt}
 
 -- the place is on neither of the two nodes

@@ -15,11 +15,11 @@ use Rattle.cost_rule.specs.Cost.{missed}
 use Rattle.node_maps.specs.NodeMaps.{candidates, ends_of}
 use Rattle.node_maps.specs.Moved.{AlikeBut}
 use Rattle.node_maps.proofs.MapLaws.{choice_within}
-use Rattle.map_board.specs.Nodes.{no_end}
-use Rattle.map_board.specs.Seated.{placed_at, asked_soft}
-use Rattle.map_board.proofs.Alikes.{alike_moved}
-use Rattle.map_board.proofs.Choices.{choice_moved}
-use Rattle.map_board.proofs.SeatLaws.{soft_after}
+use Rattle.map_state.specs.Nodes.{no_end}
+use Rattle.map_state.specs.Hosted.{placed_at, asked_soft}
+use Rattle.map_state.proofs.Alikes.{alike_moved}
+use Rattle.map_state.proofs.Choices.{choice_moved}
+use Rattle.map_state.proofs.HostingLaws.{soft_after}
 use Rattle.map_anneal.proofs.Frames.{IsOff, AlikeOn, end_place}
 use Rattle.map_anneal.proofs.MoveReads.{ReadAlike}
 use Rattle.map_anneal.proofs.PriceFrames.{node_softs_add}

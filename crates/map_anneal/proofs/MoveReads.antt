@@ -7,7 +7,7 @@ use Rattle.virt_topo.specs.Wirings.{virt_at}
 use Rattle.lab_model.specs.Shapes.{Place}
 use Rattle.lab_model.specs.Rules.{place_at}
 use Rattle.trunk_sums.proofs.Replugged.{IsIn}
-use Rattle.map_board.specs.Seated.{asked_soft, placed_at}
+use Rattle.map_state.specs.Hosted.{asked_soft, placed_at}
 use Rattle.map_anneal.proofs.Switches.{AreAlikeAt}
 use Rattle.map_anneal.proofs.Frames.{IsOff, AlikeOn, end_place, KeepsSwitch}
 

@@ -13,10 +13,10 @@ use Rattle.node_maps.specs.declared.ends.End.{End}
 use Rattle.node_maps.specs.NodeMaps.{ends_of, plugs_from, plugs_of}
 use Rattle.node_maps.specs.Moved.{IsOn}
 use Rattle.node_maps.proofs.EndLists.{on_nodes}
-use Rattle.map_board.specs.Nodes.{is_on, no_end, plugs_where, with_plugs}
-use Rattle.map_board.proofs.WhereLaws.{filter_alike, with_length}
-use Rattle.map_board.proofs.ByNode.{own_plugs}
-use Rattle.map_board.proofs.GivenAnew.{given_anew, count_given, filter_placed, same_from, all_passed}
+use Rattle.map_state.specs.Nodes.{is_on, no_end, plugs_where, with_plugs}
+use Rattle.map_state.proofs.WhereLaws.{filter_alike, with_length}
+use Rattle.map_state.proofs.ByNode.{own_plugs}
+use Rattle.map_state.proofs.GivenAnew.{given_anew, count_given, filter_placed, same_from, all_passed}
 use Rattle.map_anneal.proofs.Frames.{IsOff, AlikeOn, end_place, IsFrame, Follows}
 
 -- on each of the two nodes the same virtual nodes are placed

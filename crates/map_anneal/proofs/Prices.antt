@@ -4,14 +4,14 @@ use Rattle.virt_topo.specs.Soundness.{IsSound}
 use Rattle.lab_model.specs.Shapes.{IsShaped}
 use Rattle.cost_rule.specs.declared.rule.RuleNumber.{RuleNumber}
 use Rattle.node_maps.proofs.MapLaws.{choice_within, mapped_shaped}
-use Rattle.map_anneal.specs.declared.moves.Moves.{Moves}
+use Rattle.map_state.specs.declared.search.Search.{Search}
 use Rattle.map_anneal.specs.declared.tried.Tried.{Tried}
 use Rattle.map_anneal.specs.Sought.{Sought, IsNodeMap}
 use Rattle.map_anneal.specs.Searches.{sought_of, priced_by, IsPriced, IsTried}
 
 -- what is tried is a feasible node map with its cost
-pub priced_tried : (moves : Moves) (number : RuleNumber) (x : Tried) → IsTried moves number x → IsPriced (sought_of moves number) (priced_by x)
-priced_tried moves number x is = record { node_map = record { choice = is.board.laid.choice; feasible = is.board.mapped }; cost = is.cost }
+pub priced_tried : (search : Search) (number : RuleNumber) (x : Tried) → IsTried search number x → IsPriced (sought_of search number) (priced_by x)
+priced_tried search number x is = record { node_map = record { choice = is.state.state.choice; feasible = is.state.mapped }; cost = is.cost }
 
 -- a feasible node map is shaped
 pub map_shaped : (s : Sought) (m : Mapping) → IsSound s.wiring → IsNodeMap s m → IsShaped s.lab s.wiring m

@@ -15,17 +15,18 @@ use Rattle.node_maps.specs.Rooms.{room_of, no_room}
 use Rattle.node_maps.proofs.MapLaws.{candidates_count}
 use Rattle.node_maps.proofs.Places.{few_places}
 use Rattle.cost_rule.specs.declared.rule.RuleNumber.{RuleNumber}
-use Rattle.map_anneal.specs.declared.moves.Moves.{Moves}
+use Rattle.map_state.specs.declared.search.Search.{Search}
 use Rattle.map_anneal.specs.Sought.{choices}
-use Rattle.map_anneal.specs.Searches.{sought_of, IsMoves}
+use Rattle.map_state.specs.Tables.{IsSearch}
+use Rattle.map_anneal.specs.Searches.{sought_of}
 use Rattle.map_anneal.proofs.MayHave.{of_virt}
 
 abbrev pub rooms_of : Lab → List (List Place) → List (List Room)
 rooms_of lab cs = map (map (room_of lab)) cs
 
 -- the rooms are those of the candidates
-pub moves_rooms : (moves : Moves) (number : RuleNumber) → IsMoves moves → moves.rooms.now ≡ rooms_of moves.setting.mapper.lab.now (choices (sought_of moves number))
-moves_rooms moves number are = are.rooms ∙ ap (rooms_of moves.setting.mapper.lab.now) are.listed
+pub search_rooms : (search : Search) (number : RuleNumber) → IsSearch search → search.rooms.now ≡ rooms_of search.mapper.lab.now (choices (sought_of search number))
+search_rooms search number are = are.rooms ∙ ap (rooms_of search.mapper.lab.now) are.listed
 
 -- as many virtual nodes, and as many candidates of each
 pub rooms_count : (lab : Lab) (cs : List (List Place)) (rooms : List (List Room)) → rooms ≡ rooms_of lab cs → length rooms ≡ length cs

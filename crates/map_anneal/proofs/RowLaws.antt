@@ -10,12 +10,13 @@ use Rattle.virt_topo.specs.Wirings.{virt_at}
 use Rattle.lab_model.specs.Shapes.{Place, IsShaped, node_at, has_name}
 use Rattle.lab_model.specs.Rules.{is_member, no_place, number_of, place_at}
 use Rattle.node_maps.specs.Marked.{marks_of}
+use Rattle.node_maps.specs.Rooms.{room_of}
 use Rattle.node_maps.proofs.Assembled.{parts_of_map}
 use Rattle.node_maps.proofs.MapLaws.{mapped_is}
-use Rattle.map_board.specs.Seated.{IsFull, guests_at, placed_at}
-use Rattle.map_board.proofs.BoardLaws.{shaped_at}
-use Rattle.map_board.proofs.CrowdLaws.{overfull}
-use Rattle.map_board.proofs.SeatLaws.{guest_more}
+use Rattle.map_state.specs.Hosted.{IsFull, guests_at, placed_at}
+use Rattle.map_state.proofs.StateLaws.{shaped_at}
+use Rattle.map_state.proofs.FullLaws.{overfull}
+use Rattle.map_state.proofs.HostingLaws.{guest_more}
 use Rattle.map_anneal.specs.Sought.{Sought, candidates_at, mapped, price, IsNodeMap, IsNoCheaper}
 use Rattle.map_anneal.specs.Weighed.{IsNoLess, IsRow}
 use Rattle.map_anneal.specs.Steps.{KeepsTypes, IsStep}
@@ -30,7 +31,7 @@ no_cheaper s m places least other found =
     subst (λ (l : List Place). price s m ≤ price s (record { places = l; plugs = other.plugs })) (sym same) le
 
 -- a virtual node may not go to a node that is full
-pub full_no_less : (s : Sought) (m : Mapping) (v below : ℕ) (p : Place) → IsShaped s.lab s.wiring m → v < length m.places → p.0.0 < length s.lab.nodes → has_name (node_at s.lab p.0).types p.1 ≡ true → IsFull s.lab m.places v p
+pub full_no_less : (s : Sought) (m : Mapping) (v below : ℕ) (p : Place) → IsShaped s.lab s.wiring m → v < length m.places → p.0.0 < length s.lab.nodes → has_name (node_at s.lab p.0).types p.1 ≡ true → IsFull m.places v (room_of s.lab p)
     → IsNoLess s below (set m.places v p)
 full_no_less s m v below p shaped lt node typed full plugs kept =
     let there : get_or (set m.places v p) v no_place ≡ p = get_or-set_same m.places v p no_place lt in

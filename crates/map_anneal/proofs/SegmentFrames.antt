@@ -20,7 +20,7 @@ use Rattle.lab_model.specs.Rules.{no_place}
 use Rattle.node_maps.specs.NodeMaps.{plugs_of}
 use Rattle.node_maps.specs.Moved.{IsOn}
 use Rattle.node_maps.proofs.EndLists.{on_nodes}
-use Rattle.map_board.specs.Nodes.{no_end}
+use Rattle.map_state.specs.Nodes.{no_end}
 use Rattle.map_anneal.proofs.Frames.{IsOff, end_place, KeepsSwitch, IsFrame, Follows}
 use Rattle.map_anneal.proofs.PlugFrames.{plugs_on_both}
 

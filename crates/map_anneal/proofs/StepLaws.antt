@@ -16,7 +16,7 @@ use Rattle.node_maps.proofs.EndLists.{same_length}
 use Rattle.node_maps.proofs.MapLaws.{mapped_is, choice_within}
 use Rattle.node_maps.proofs.Shaped.{shaped}
 use Rattle.trunk_sums.proofs.Replugged.{IsIn, in_ends}
-use Rattle.map_board.specs.Nodes.{no_end}
+use Rattle.map_state.specs.Nodes.{no_end}
 use Rattle.map_anneal.specs.Sought.{Sought, candidates_at, price, IsNodeMap}
 use Rattle.map_anneal.specs.Weighed.{IsNoLess}
 use Rattle.map_anneal.specs.Steps.{AreStill, IsAside, KeepsTypes}

@@ -6,7 +6,7 @@ use Rattle.std.specs.Prelude.{option_and_then}
 use Rattle.virt_topo.specs.declared.mapping.Mapping.{Mapping}
 use Rattle.node_maps.specs.Least.{IsFirstLeast}
 use Rattle.node_maps.proofs.Leasts.{least_kept, least_taken}
-use Rattle.map_anneal.specs.declared.search.Priced.{Priced}
+use Rattle.map_anneal.specs.declared.priced.Priced.{Priced}
 use Rattle.map_anneal.specs.declared.walk.Walk.{Walk}
 use Rattle.map_anneal.specs.Sought.{Sought, price}
 use Rattle.map_anneal.specs.Searches.{IsPriced}
@@ -24,7 +24,7 @@ found_some s heat last m d is lt =
 -- the try adds none
 pub found_none : (s : Sought) (heat : ℕ) (last : Mapping) (d : Drawn)
     → ((m : Mapping) → named s last d.first d.second ≡ Some m → price s last + (d.third % 1024) * heat / 1024 + 1 ≤ price s m) → found s heat last d ≡ None
-found_none s heat last d dear = by (named s last d.first d.second) refl
+found_none s heat last d over = by (named s last d.first d.second) refl
   where
     above : (a b : ℕ) → b + 1 ≤ a → nat_le a b ≡ false
     above a b le = grind (arith, nat_tests)
@@ -33,25 +33,25 @@ found_none s heat last d dear = by (named s last d.first d.second) refl
     by None is = ap (λ o. option_and_then (λ x. if nat_le (price s x) (price s last + (d.third % 1024) * heat / 1024) then Some x else None) o) is
     by (Some m) is =
         let most = price s last + (d.third % 1024) * heat / 1024 in
-        ap (λ o. option_and_then (λ x. if nat_le (price s x) most then Some x else None) o) is ∙ cond-false (nat_le (price s m) most) (Some m) None (above (price s m) most (dear m is))
+        ap (λ o. option_and_then (λ x. if nat_le (price s x) most then Some x else None) o) is ∙ cond-false (nat_le (price s m) most) (Some m) None (above (price s m) most (over m is))
 
 -- the walk after a try that found this
-pub after_try : (s : Sought) (heat : ℕ) (x : Walker) (old : Walk) (o : Option Mapping) → Keeps s old x → found s heat old.last.board.mapping (drawn old.generator) ≡ o
+pub after_try : (s : Sought) (heat : ℕ) (x : Walker) (old : Walk) (o : Option Mapping) → Keeps s old x → found s heat old.last.state.mapping (drawn old.generator) ≡ o
     → one_try s heat x ≡ added x (drawn old.generator).after o
 after_try s heat x old o keeps e =
     ap (λ w. added x (drawn w).after (found s heat x.last (drawn w))) (sym keeps.words)
     ∙ ap (λ m. added x (drawn old.generator).after (found s heat m (drawn old.generator))) (sym keeps.last)
     ∙ ap (λ f. added x (drawn old.generator).after f) e
 
-pub keeps_added : (s : Sought) (heat : ℕ) (x : Walker) (old new : Walk) (m : Mapping) → Keeps s old x → found s heat old.last.board.mapping (drawn old.generator) ≡ Some m
-    → new.generator ≡ (drawn old.generator).after → new.last.board.mapping ≡ m → IsFirstLeast (price s) (x.maps ++ m ∷ []) new.best.mapping
+pub keeps_added : (s : Sought) (heat : ℕ) (x : Walker) (old new : Walk) (m : Mapping) → Keeps s old x → found s heat old.last.state.mapping (drawn old.generator) ≡ Some m
+    → new.generator ≡ (drawn old.generator).after → new.last.state.mapping ≡ m → IsFirstLeast (price s) (x.maps ++ m ∷ []) new.best.mapping
     → Keeps s new (one_try s heat x)
 keeps_added s heat x old new m keeps e words last best =
     let P : Walker → Type 0 = λ y. Keeps s new y in
     subst P (sym (after_try s heat x old (Some m) keeps e)) (record { words = words; last = last; best = best })
 
-pub keeps_same : (s : Sought) (heat : ℕ) (x : Walker) (old new : Walk) → Keeps s old x → found s heat old.last.board.mapping (drawn old.generator) ≡ None
-    → new.generator ≡ (drawn old.generator).after → new.last.board.mapping ≡ old.last.board.mapping → new.best ≡ old.best → Keeps s new (one_try s heat x)
+pub keeps_same : (s : Sought) (heat : ℕ) (x : Walker) (old new : Walk) → Keeps s old x → found s heat old.last.state.mapping (drawn old.generator) ≡ None
+    → new.generator ≡ (drawn old.generator).after → new.last.state.mapping ≡ old.last.state.mapping → new.best ≡ old.best → Keeps s new (one_try s heat x)
 keeps_same s heat x old new keeps e words last best =
     let P : Walker → Type 0 = λ y. Keeps s new y in
     let Q : Priced → Type 0 = λ p. IsFirstLeast (price s) x.maps p.mapping in

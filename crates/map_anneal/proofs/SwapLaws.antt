@@ -14,7 +14,7 @@ use Rattle.virt_topo.specs.Wirings.{virt_at}
 use Rattle.lab_model.specs.Shapes.{Place}
 use Rattle.lab_model.specs.Rules.{class_at, is_member, no_place, place_at}
 use Rattle.cost_rule.specs.Cost.{types_of}
-use Rattle.map_board.specs.Seated.{asked_soft, placed_at}
+use Rattle.map_state.specs.Hosted.{asked_soft, placed_at}
 use Rattle.map_anneal.specs.Steps.{KeepsTypes}
 use Rattle.map_anneal.proofs.TypeLaws.{any_from, any_to, soft_alike, soft_now}
 use Rattle.map_anneal.proofs.MoveReads.{gained, spared}

@@ -40,8 +40,8 @@ tried_no_less s m at v number below same cost least =
 
 pub tried_no_cheaper : (s : Sought) (m at : Mapping) (v number below : ℕ) → at ≡ m → below ≡ price s m
     → ((other : Mapping) → moved s at v (candidate_at s v number) ≡ Some other → below ≤ price s other) → IsNoCheaper s m (moved s m v (candidate_at s v number))
-tried_no_cheaper s m at v number below same cost dear other found =
-    subst (λ (n : ℕ). n ≤ price s other) cost (dear other (ap (λ (y : Mapping). moved s y v (candidate_at s v number)) same ∙ found))
+tried_no_cheaper s m at v number below same cost over other found =
+    subst (λ (n : ℕ). n ≤ price s other) cost (over other (ap (λ (y : Mapping). moved s y v (candidate_at s v number)) same ∙ found))
 
 -- where no candidate by its number is cheaper, no move is
 pub no_move : (s : Sought) (m : Mapping) (v : ℕ) → ((k : ℕ) → k < length (candidates_at s v) → IsNoCheaper s m (moved s m v (candidate_at s v k))) → NoMove s m v
@@ -59,16 +59,16 @@ rows_noted s m v rows new are lt is = record {
 }
 
 -- where the map of these places costs no less, none with other plugs does
-pub settled_no_less : (s : Sought) (below : ℕ) (places : List Place) (m : Mapping) → mapped s places ≡ Some m → below ≤ price s m → IsNoLess s below places
-settled_no_less s below places m is least plugs kept =
+pub commit_no_less : (s : Sought) (below : ℕ) (places : List Place) (m : Mapping) → mapped s places ≡ Some m → below ≤ price s m → IsNoLess s below places
+commit_no_less s below places m is least plugs kept =
     let given = (parts_of_map s.lab s.free s.wiring places m is).given in
     let at = (mapped_is s.lab s.free s.wiring places m is).same_places in
     let same : plugs ≡ m.plugs = same_Some plugs m.plugs (sym kept.given ∙ given) in
     subst (λ (y : Mapping). below ≤ price s y) (mapping_is m (record { places = places; plugs = plugs }) at (sym same)) least
 
--- what settles is the map
-pub settled_is : (kept : Bool) (o : Option Mapping) (m : Mapping) → kept ≡ true → o ≡ cond kept (Some m) None → o ≡ Some m
-settled_is kept o m is found = subst (λ (b : Bool). o ≡ cond b (Some m) None) is found
+-- what is committed is the map
+pub served_is : (kept : Bool) (o : Option Mapping) (m : Mapping) → kept ≡ true → o ≡ cond kept (Some m) None → o ≡ Some m
+served_is kept o m is found = subst (λ (b : Bool). o ≡ cond b (Some m) None) is found
 
 -- where virtual nodes may not stay on two nodes, no plugs make a map of these places
 pub never_kept : (lab : Lab) (w : Wiring) (places : List Place) (a b : ℕ) (stays : Bool) → (IsTrue stays ↔ KeepsPlaces lab w places a b) → stays ≡ false → a < length lab.nodes → b < length lab.nodes

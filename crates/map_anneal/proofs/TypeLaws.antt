@@ -17,8 +17,8 @@ use Rattle.virt_topo.specs.Wirings.{no_virt, virt_at}
 use Rattle.lab_model.specs.Shapes.{Place}
 use Rattle.lab_model.specs.Rules.{class_at, is_member, no_place, place_at}
 use Rattle.cost_rule.specs.Cost.{types_of}
-use Rattle.map_board.specs.Seated.{asked_soft, placed_at}
-use Rattle.map_anneal.specs.Steps.{IsSettler, HasTwo, KeepsTypes}
+use Rattle.map_state.specs.Hosted.{asked_soft, placed_at}
+use Rattle.map_anneal.specs.Steps.{IsStaying, HasTwo, KeepsTypes}
 
 -- a member of this type
 pub record IsTyped (c : ℕ) (type : List ℕ) (vs : List VirtNode) (places : List Place) : Type 0 where
@@ -61,11 +61,11 @@ any_to c type (v ∷ vs) (p ∷ places) is = by (any_to c type vs places) (is_me
     by rest false member any = next (rest any)
 
 -- the other way round
-settler_back : (w : Wiring) (x y : Mapping) (c : ℕ) (type : List ℕ) (u : ℕ) → IsSettler w x y c type u → IsSettler w y x c type u
-settler_back w x y c type u is = record { within = is.within; member = is.member; stays = sym is.stays; typed = ap (λ (p : Place). p.1) (sym is.stays) ∙ is.typed }
+staying_back : (w : Wiring) (x y : Mapping) (c : ℕ) (type : List ℕ) (u : ℕ) → IsStaying w x y c type u → IsStaying w y x c type u
+staying_back w x y c type u is = record { within = is.within; member = is.member; stays = sym is.stays; typed = ap (λ (p : Place). p.1) (sym is.stays) ∙ is.typed }
 
 two_back : (w : Wiring) (x y : Mapping) (c : ℕ) (type : List ℕ) → HasTwo w x y c type → HasTwo w y x c type
-two_back w x y c type is = record { one = is.one; other = is.other; apart = is.apart; first = settler_back w x y c type is.one is.first; second = settler_back w x y c type is.other is.second }
+two_back w x y c type is = record { one = is.one; other = is.other; apart = is.apart; first = staying_back w x y c type is.one is.first; second = staying_back w x y c type is.other is.second }
 
 keeps_back : (w : Wiring) (x y : Mapping) (c : ℕ) → KeepsTypes w x y c → KeepsTypes w y x c
 keeps_back w x y c keeps u lt member = elim (keeps u lt member) [
@@ -91,8 +91,8 @@ still_typed w x y c v p type x_all y_all v_in keeps is =
             | inr two ↦ (
                 let one = two.0 in
                 elim (cases_eq one.one v) [
-                  | inl is_v ↦ settled one.other one.second typed (λ e. one.apart (is_v ∙ sym e))
-                  | inr not_v ↦ settled one.one one.first typed not_v
+                  | inl is_v ↦ served one.other one.second typed (λ e. one.apart (is_v ∙ sym e))
+                  | inr not_v ↦ served one.one one.first typed not_v
                 ])
           ])
     ]
@@ -102,8 +102,8 @@ still_typed w x y c v p type x_all y_all v_in keeps is =
         any_from c type w.nodes (set y.places v p) u lt (omega (arith, lt, y_all, length-set y.places v p)) member
         (ap (λ (q : Place). q.1) (get_or-set_other y.places v u p no_place apart) ∙ typed)
 
-    settled : {t : List ℕ} (u : ℕ) → IsSettler w x y c t u → t ≡ type → u ≢ v → list_any (same_name type) (types_of c w.nodes (set y.places v p)) ≡ true
-    settled u so same apart = there u so.within so.member apart (ap (λ (q : Place). q.1) (sym so.stays) ∙ so.typed ∙ same)
+    served : {t : List ℕ} (u : ℕ) → IsStaying w x y c t u → t ≡ type → u ≢ v → list_any (same_name type) (types_of c w.nodes (set y.places v p)) ≡ true
+    served u so same apart = there u so.within so.member apart (ap (λ (q : Place). q.1) (sym so.stays) ∙ so.typed ∙ same)
 
 -- WHAT ONE MORE MEMBER OF A TYPE WOULD COST is not changed by the step
 pub types_alike : (w : Wiring) (x y : Mapping) (c v : ℕ) (p : Place) (type : List ℕ) → length x.places ≡ length w.nodes → length y.places ≡ length w.nodes → v < length w.nodes → KeepsTypes w x y c

@@ -7,10 +7,10 @@ use Rattle.cost_rule.specs.declared.rule.RuleNumber.{RuleNumber}
 use Rattle.node_maps.specs.NodeMaps.{candidates as listed_in, ends_of}
 use Rattle.node_maps.specs.Indexed.{IsIndex}
 use Rattle.node_maps.specs.Rooms.{room_of}
-use Rattle.map_board.specs.Tables.{IsSetting, IsTableOf}
-use Rattle.map_board.specs.Boards.{IsBoard}
-use Rattle.map_anneal.specs.declared.search.Priced.{Priced}
-use Rattle.map_anneal.specs.declared.moves.Moves.{Moves}
+use Rattle.map_state.specs.Tables.{IsTableOf}
+use Rattle.map_state.specs.States.{IsFeasibleState}
+use Rattle.map_anneal.specs.declared.priced.Priced.{Priced}
+use Rattle.map_state.specs.declared.search.Search.{Search}
 use Rattle.map_anneal.specs.declared.prepared.Prepared.{Prepared}
 use Rattle.map_anneal.specs.declared.tried.Tried.{Tried}
 use Rattle.map_anneal.specs.Sought.{Sought, sought, price, IsNodeMap}
@@ -21,14 +21,8 @@ pub record IsPriced (s : Sought) (p : Priced) : Type 0 where
   pub cost : p.cost ≡ price s p.mapping
 
 -- what is sought where moves are tried
-abbrev pub sought_of : Moves → RuleNumber → Sought
-sought_of x number = sought x.setting.mapper.lab.now x.setting.mapper.free.now x.setting.mapper.wiring.now number
-
--- the setting is one, and the candidates and their rooms are its
-pub record IsMoves (x : Moves) : Type 0 where
-  pub setting : IsSetting x.setting
-  pub listed : x.candidates.now ≡ listed_in x.setting.mapper.lab.now x.setting.mapper.free.now x.setting.mapper.wiring.now
-  pub rooms : x.rooms.now ≡ map (map (room_of x.setting.mapper.lab.now)) x.candidates.now
+abbrev pub sought_of : Search → RuleNumber → Sought
+sought_of x number = sought x.mapper.lab.now x.mapper.free.now x.mapper.wiring.now number
 
 -- the candidates, their rooms, the ends, the interfaces by node and the tables are those of the wiring on what is free of the lab
 pub record IsPrepared (lab : Lab) (free : Free) (w : Wiring) (x : Prepared) : Type 0 where
@@ -40,10 +34,10 @@ pub record IsPrepared (lab : Lab) (free : Free) (w : Wiring) (x : Prepared) : Ty
 
 -- the map at hand with its cost
 abbrev pub priced_by : Tried → Priced
-priced_by x = record { mapping = x.board.mapping; cost = x.cost }
+priced_by x = record { mapping = x.state.mapping; cost = x.cost }
 
 -- a feasible node map with what is kept of it, and its cost
-pub record IsTried (moves : Moves) (number : RuleNumber) (x : Tried) : Type 0 where
-  pub board : IsBoard moves.setting x.board
-  pub none : x.board.back.items ≡ []
-  pub cost : x.cost ≡ price (sought_of moves number) x.board.mapping
+pub record IsTried (search : Search) (number : RuleNumber) (x : Tried) : Type 0 where
+  pub state : IsFeasibleState search x.state
+  pub none : x.state.back.items ≡ []
+  pub cost : x.cost ≡ price (sought_of search number) x.state.mapping

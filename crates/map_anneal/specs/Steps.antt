@@ -7,7 +7,7 @@ use Rattle.virt_topo.specs.Wirings.{virt_at}
 use Rattle.lab_model.specs.Uses.{switch_of}
 use Rattle.lab_model.specs.Rules.{is_member, place_at}
 use Rattle.node_maps.specs.NodeMaps.{ends_of}
-use Rattle.map_board.specs.Nodes.{no_end}
+use Rattle.map_state.specs.Nodes.{no_end}
 
 -- the plugs of end e in both mappings are on one switch
 abbrev pub StaysAt : Lab → Mapping → Mapping → ℕ → Type 0
@@ -24,7 +24,7 @@ pub record IsAside (w : Wiring) (x y : Mapping) (still : List Bool) (n : ℕ) : 
       → (place_at x (slice_index_or (ends_of w.segments) e no_end).node).0.0 ≢ n
 
 -- a member of the class that has one place in both mappings, of this type
-pub record IsSettler (w : Wiring) (x y : Mapping) (c : ℕ) (type : List ℕ) (u : ℕ) : Type 0 where
+pub record IsStaying (w : Wiring) (x y : Mapping) (c : ℕ) (type : List ℕ) (u : ℕ) : Type 0 where
   pub within : u < length w.nodes
   pub member : is_member c (virt_at w u).asks ≡ true
   pub stays : place_at x u ≡ place_at y u
@@ -35,8 +35,8 @@ pub record HasTwo (w : Wiring) (x y : Mapping) (c : ℕ) (type : List ℕ) : Typ
   pub one : ℕ
   pub other : ℕ
   pub apart : one ≢ other
-  pub first : IsSettler w x y c type one
-  pub second : IsSettler w x y c type other
+  pub first : IsStaying w x y c type one
+  pub second : IsStaying w x y c type other
 
 -- each member of the class keeps its type, or both its types are those of two other members that stay
 abbrev pub KeepsTypes : Wiring → Mapping → Mapping → ℕ → Type 0

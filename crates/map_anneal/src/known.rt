@@ -2,18 +2,19 @@
 ghost use Rattle.std.specs.Prelude.{◌≡◌, ◌<◌, ℕ, true, false, map, length, slice_index_or, IfOk, OnOk};
 ghost use Rattle.lab_model.specs.Rules.{is_member, place_at};
 ghost use Rattle.virt_topo.specs.Wirings.{virt_at};
+ghost use Rattle.map_state.specs.Tables.{IsSearch};
 ghost use Rattle.map_anneal.specs.Sought.{IsNodeMap};
-ghost use Rattle.map_anneal.specs.Searches.{sought_of, IsMoves};
+ghost use Rattle.map_anneal.specs.Searches.{sought_of};
 ghost use Rattle.map_anneal.specs.Untouched.{IsTouched, IsUntouched};
 ghost use Rattle.map_anneal.specs.Noted.{IsKnown};
 ghost use Rattle.map_anneal.specs.Weighed.{ArePairs, AreRows};
 ghost use Rattle.node_maps.specs.Marked.{marked_numbers, marked_of};
 
-use crate::moves::Moves;
 use crate::notes::Notes;
 use crate::step::{is_marked, touched_classes, touched_nodes};
 use cost_rule::StepRule;
 use lab_base::{Items, Memory};
+use map_state::Search;
 use node_maps::{Marked, marked_numbers};
 use std::alloc::Global;
 use virt_topo::{Asks, Mapping, Wiring};
@@ -84,22 +85,22 @@ impl Touched {
     /// The nodes and virtual nodes that the step from one map to another touches.
     fn of(
         alloc: Global,
-        moves: &Moves,
+        search: &Search,
         _rule: &StepRule,
         last: &Mapping,
         next: &Mapping,
     ) -> Result<Touched, Memory>
-        requires moves { IsMoves moves.now }
-        requires last { IsNodeMap (sought_of moves.now _rule.now.number) last.now }
-        requires next { IsNodeMap (sought_of moves.now _rule.now.number) next.now }
-        ensures touched { IfOk result (IsTouched moves.now.setting.mapper.lab.now moves.now.setting.mapper.wiring.now last.now next.now) }
+        requires search { IsSearch search.now }
+        requires last { IsNodeMap (sought_of search.now _rule.now.number) last.now }
+        requires next { IsNodeMap (sought_of search.now _rule.now.number) next.now }
+        ensures touched { IfOk result (IsTouched search.now.mapper.lab.now search.now.mapper.wiring.now last.now next.now) }
         ensures numbers { IfOk result (λ touched. touched.numbers ≡ marked_numbers touched.virts.items) }
-        ensures candidates { IfOk result (λ touched. touched.candidates ≡ map (marked_of touched.nodes.items) moves.now.candidates.now) }
+        ensures candidates { IfOk result (λ touched. touched.candidates ≡ map (marked_of touched.nodes.items) search.now.candidates.now) }
     {
-        let nodes = touched_nodes(alloc, moves, _rule, last, next)?;
-        let virts = touched_virts(alloc, moves.setting.mapper.wiring, &nodes, last, next)?;
+        let nodes = touched_nodes(alloc, search, _rule, last, next)?;
+        let virts = touched_virts(alloc, search.mapper.wiring, &nodes, last, next)?;
         let numbers = marked_numbers(alloc, &virts)?;
-        let candidates = moves.candidates.marked(alloc, &nodes)?;
+        let candidates = search.candidates.marked(alloc, &nodes)?;
         Ok(Touched {
             nodes,
             virts,
@@ -122,19 +123,19 @@ impl Touched {
 /// Forgets the moves that a step may have changed.
 fn follow_rows(
     rows: &mut Vec<Notes>,
-    _moves: &Moves,
+    _search: &Search,
     _rule: &StepRule,
     _last: &Mapping,
     _next: &Mapping,
     touched: &Touched,
 )
-    requires moves { IsMoves _moves.now }
-    requires last { IsNodeMap (sought_of _moves.now _rule.now.number) _last.now }
-    requires next { IsNodeMap (sought_of _moves.now _rule.now.number) _next.now }
-    requires touched { IsTouched _moves.now.setting.mapper.lab.now _moves.now.setting.mapper.wiring.now _last.now _next.now touched.now }
-    requires candidates { touched.now.candidates ≡ map (marked_of touched.now.nodes.items) _moves.now.candidates.now }
-    requires rows { AreRows (sought_of _moves.now _rule.now.number) _last.now rows.old.items }
-    ensures { AreRows (sought_of _moves.now _rule.now.number) _next.now rows.new.items }
+    requires search { IsSearch _search.now }
+    requires last { IsNodeMap (sought_of _search.now _rule.now.number) _last.now }
+    requires next { IsNodeMap (sought_of _search.now _rule.now.number) _next.now }
+    requires touched { IsTouched _search.now.mapper.lab.now _search.now.mapper.wiring.now _last.now _next.now touched.now }
+    requires candidates { touched.now.candidates ≡ map (marked_of touched.now.nodes.items) _search.now.candidates.now }
+    requires rows { AreRows (sought_of _search.now _rule.now.number) _last.now rows.old.items }
+    ensures { AreRows (sought_of _search.now _rule.now.number) _next.now rows.new.items }
 {
     for virt in 0..rows.len() {
         let all = touched.has(virt);
@@ -145,19 +146,19 @@ fn follow_rows(
 /// Forgets the exchanges that a step may have changed.
 fn follow_pairs(
     pairs: &mut Vec<Notes>,
-    _moves: &Moves,
+    _search: &Search,
     _rule: &StepRule,
     _last: &Mapping,
     _next: &Mapping,
     touched: &Touched,
 )
-    requires moves { IsMoves _moves.now }
-    requires last { IsNodeMap (sought_of _moves.now _rule.now.number) _last.now }
-    requires next { IsNodeMap (sought_of _moves.now _rule.now.number) _next.now }
-    requires touched { IsTouched _moves.now.setting.mapper.lab.now _moves.now.setting.mapper.wiring.now _last.now _next.now touched.now }
+    requires search { IsSearch _search.now }
+    requires last { IsNodeMap (sought_of _search.now _rule.now.number) _last.now }
+    requires next { IsNodeMap (sought_of _search.now _rule.now.number) _next.now }
+    requires touched { IsTouched _search.now.mapper.lab.now _search.now.mapper.wiring.now _last.now _next.now touched.now }
     requires numbers { touched.now.numbers ≡ marked_numbers touched.now.virts.items }
-    requires pairs { ArePairs (sought_of _moves.now _rule.now.number) _last.now pairs.old.items }
-    ensures { ArePairs (sought_of _moves.now _rule.now.number) _next.now pairs.new.items }
+    requires pairs { ArePairs (sought_of _search.now _rule.now.number) _last.now pairs.old.items }
+    ensures { ArePairs (sought_of _search.now _rule.now.number) _next.now pairs.new.items }
 {
     for virt in 0..pairs.len() {
         let all = touched.has(virt);
@@ -175,16 +176,16 @@ pub(crate) struct Known {
 /// No move is known.
 fn fresh_rows(
     alloc: Global,
-    moves: &Moves,
+    search: &Search,
     _rule: &StepRule,
     _start: &Mapping,
 ) -> Result<Vec<Notes>, Memory>
-    requires { IsMoves moves.now }
-    ensures { IfOk result (λ rows. AreRows (sought_of moves.now _rule.now.number) _start.now rows.items) }
+    requires { IsSearch search.now }
+    ensures { IfOk result (λ rows. AreRows (sought_of search.now _rule.now.number) _start.now rows.items) }
 {
     let mut rows = Vec::new(alloc);
-    for virt in 0..moves.candidates.len() {
-        let row = Notes::of(alloc, moves.candidates.count(virt))?;
+    for virt in 0..search.candidates.len() {
+        let row = Notes::of(alloc, search.candidates.count(virt))?;
         rows.push(row)?;
     }
     Ok(rows)
@@ -193,14 +194,14 @@ fn fresh_rows(
 /// No exchange is known.
 fn fresh_pairs(
     alloc: Global,
-    moves: &Moves,
+    search: &Search,
     _rule: &StepRule,
     _start: &Mapping,
 ) -> Result<Vec<Notes>, Memory>
-    requires { IsMoves moves.now }
-    ensures { IfOk result (λ pairs. ArePairs (sought_of moves.now _rule.now.number) _start.now pairs.items) }
+    requires { IsSearch search.now }
+    ensures { IfOk result (λ pairs. ArePairs (sought_of search.now _rule.now.number) _start.now pairs.items) }
 {
-    let count = moves.candidates.len();
+    let count = search.candidates.len();
     let mut pairs = Vec::new(alloc);
     for _virt in 0..count {
         let fresh = Notes::of(alloc, count)?;
@@ -213,15 +214,15 @@ impl Known {
     /// Nothing is known.
     pub(crate) fn of(
         alloc: Global,
-        moves: &Moves,
+        search: &Search,
         rule: &StepRule,
         start: &Mapping,
     ) -> Result<Known, Memory>
-        requires { IsMoves moves.now }
-        ensures { IfOk result (λ known. IsKnown (sought_of moves.now rule.now.number) start.now known) }
+        requires { IsSearch search.now }
+        ensures { IfOk result (λ known. IsKnown (sought_of search.now rule.now.number) start.now known) }
     {
-        let rows = fresh_rows(alloc, moves, rule, start)?;
-        let pairs = fresh_pairs(alloc, moves, rule, start)?;
+        let rows = fresh_rows(alloc, search, rule, start)?;
+        let pairs = fresh_pairs(alloc, search, rule, start)?;
         Ok(Known { rows, pairs })
     }
 
@@ -229,20 +230,20 @@ impl Known {
     pub(crate) fn follow(
         &mut self,
         alloc: Global,
-        moves: &Moves,
+        search: &Search,
         rule: &StepRule,
         last: &Mapping,
         next: &Mapping,
     ) -> Result<(), Memory>
-        requires moves { IsMoves moves.now }
-        requires last { IsNodeMap (sought_of moves.now rule.now.number) last.now }
-        requires next { IsNodeMap (sought_of moves.now rule.now.number) next.now }
-        requires known { IsKnown (sought_of moves.now rule.now.number) last.now self.old }
-        ensures { OnOk result (IsKnown (sought_of moves.now rule.now.number) next.now self.new) }
+        requires search { IsSearch search.now }
+        requires last { IsNodeMap (sought_of search.now rule.now.number) last.now }
+        requires next { IsNodeMap (sought_of search.now rule.now.number) next.now }
+        requires known { IsKnown (sought_of search.now rule.now.number) last.now self.old }
+        ensures { OnOk result (IsKnown (sought_of search.now rule.now.number) next.now self.new) }
     {
-        let touched = Touched::of(alloc, moves, rule, last, next)?;
-        follow_rows(&mut self.rows, moves, rule, last, next, &touched);
-        follow_pairs(&mut self.pairs, moves, rule, last, next, &touched);
+        let touched = Touched::of(alloc, search, rule, last, next)?;
+        follow_rows(&mut self.rows, search, rule, last, next, &touched);
+        follow_pairs(&mut self.pairs, search, rule, last, next, &touched);
         Ok(())
     }
 }

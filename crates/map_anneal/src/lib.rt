@@ -6,13 +6,13 @@ mod known;
 mod moves;
 mod notes;
 mod prepared;
-mod search;
+mod priced;
 mod step;
 mod tried;
 mod walk;
 
 pub use descent::{descend, descend_by};
-pub use moves::Moves;
+pub use moves::cost_of;
 pub use prepared::Prepared;
-pub use search::Priced;
+pub use priced::Priced;
 pub use walk::{anneal, anneal_by};

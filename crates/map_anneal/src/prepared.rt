@@ -2,11 +2,11 @@
 ghost use Rattle.std.specs.Prelude.{◌≡◌, IfOk};
 ghost use Rattle.virt_topo.specs.Soundness.{IsSound};
 ghost use Rattle.lab_model.specs.Shapes.{IsFreeOf};
-ghost use Rattle.map_anneal.specs.Searches.{IsPrepared, IsMoves};
+ghost use Rattle.map_state.specs.Tables.{IsSearch};
+ghost use Rattle.map_anneal.specs.Searches.{IsPrepared};
 
-use crate::moves::Moves;
 use lab_base::Memory;
-use map_board::{Setting, Table};
+use map_state::{Search, Table};
 use node_maps::{Candidates, End, Mapper, NodeIfaces, Rooms, candidates, ends_of};
 use phys_lab::{Free, Lab};
 use std::alloc::Global;
@@ -15,11 +15,11 @@ use virt_topo::Wiring;
 /// The tables of a wiring on the free rest of a lab, which searches use.
 #[derive(Drop)]
 pub struct Prepared {
-    pub candidates: Candidates,
+    pub(crate) candidates: Candidates,
     /// The rooms of the candidates.
     pub(crate) rooms: Rooms,
     /// The ends of the wiring, in order.
-    pub ends: Vec<End>,
+    pub(crate) ends: Vec<End>,
     pub(crate) ifaces: NodeIfaces,
     pub(crate) table: Table,
 }
@@ -45,15 +45,15 @@ impl Prepared {
         })
     }
 
-    /// The setting in which moves are tried.
-    pub fn moves<'a>(&'a self, lab: &'a Lab, free: &'a Free, wiring: &'a Wiring) -> Moves<'a>
+    /// The search of a wiring on the free rest of a lab.
+    pub fn search<'a>(&'a self, lab: &'a Lab, free: &'a Free, wiring: &'a Wiring) -> Search<'a>
         requires free { IsFreeOf lab.now free.now }
         requires sound { IsSound wiring.now }
         requires prepared { IsPrepared lab.now free.now wiring.now self.now }
-        ensures moves { IsMoves result }
-        ensures lab { result.setting.mapper.lab.now ≡ lab.now }
-        ensures left { result.setting.mapper.free.now ≡ free.now }
-        ensures wiring { result.setting.mapper.wiring.now ≡ wiring.now }
+        ensures search { IsSearch result }
+        ensures lab { result.mapper.lab.now ≡ lab.now }
+        ensures left { result.mapper.free.now ≡ free.now }
+        ensures wiring { result.mapper.wiring.now ≡ wiring.now }
     {
         let mapper = Mapper {
             lab,
@@ -62,11 +62,9 @@ impl Prepared {
             ends: &self.ends,
             ifaces: &self.ifaces,
         };
-        Moves {
-            setting: Setting {
-                mapper,
-                table: &self.table,
-            },
+        Search {
+            mapper,
+            table: &self.table,
             candidates: &self.candidates,
             rooms: &self.rooms,
         }

@@ -4,14 +4,15 @@ ghost use Rattle.virt_topo.specs.Wirings.{virt_at};
 ghost use Rattle.lab_model.specs.Rules.{is_member, place_at};
 ghost use Rattle.lab_model.specs.Uses.{switch_of};
 ghost use Rattle.node_maps.specs.declared.ends.End.{End as EndSeen};
-ghost use Rattle.map_board.specs.Nodes.{no_end};
+ghost use Rattle.map_state.specs.Nodes.{no_end};
+ghost use Rattle.map_state.specs.Tables.{IsSearch};
 ghost use Rattle.map_anneal.specs.Sought.{IsNodeMap};
-ghost use Rattle.map_anneal.specs.Searches.{sought_of, IsMoves};
-ghost use Rattle.map_anneal.specs.Steps.{HasTwo, IsSettler, IsStep, KeepsTypes, StaysAt};
+ghost use Rattle.map_anneal.specs.Searches.{sought_of};
+ghost use Rattle.map_anneal.specs.Steps.{HasTwo, IsStaying, IsStep, KeepsTypes, StaysAt};
 
-use crate::moves::Moves;
 use cost_rule::StepRule;
 use lab_base::{IfaceId, Memory, Name};
+use map_state::Search;
 use node_maps::End;
 use phys_lab::Lab;
 use std::alloc::Global;
@@ -61,20 +62,20 @@ fn note_end(still: &mut Vec<bool>, lab: &Lab, one: IfaceId, other: IfaceId, segm
 /// By segment whether all its plugs stay on their switches.
 fn still_segments(
     alloc: Global,
-    moves: &Moves,
+    search: &Search,
     last: &Mapping,
     next: &Mapping,
 ) -> Result<Vec<bool>, Memory>
-    requires few { length moves.now.setting.mapper.ends.now ≤ MAX_ENDS }
-    requires last { length last.now.plugs ≡ length moves.now.setting.mapper.ends.now }
-    requires next { length next.now.plugs ≡ length moves.now.setting.mapper.ends.now }
-    requires last_in { All (λ i. i.0 < length moves.now.setting.mapper.lab.now.ifaces) last.now.plugs }
-    requires next_in { All (λ i. i.0 < length moves.now.setting.mapper.lab.now.ifaces) next.now.plugs }
-    ensures { IfOk result (λ still. (e : ℕ) → e < length moves.now.setting.mapper.ends.now
-        → slice_index_or still.items (slice_index_or moves.now.setting.mapper.ends.now e no_end).segment false ≡ true
-        → StaysAt moves.now.setting.mapper.lab.now last.now next.now e) }
+    requires few { length search.now.mapper.ends.now ≤ MAX_ENDS }
+    requires last { length last.now.plugs ≡ length search.now.mapper.ends.now }
+    requires next { length next.now.plugs ≡ length search.now.mapper.ends.now }
+    requires last_in { All (λ i. i.0 < length search.now.mapper.lab.now.ifaces) last.now.plugs }
+    requires next_in { All (λ i. i.0 < length search.now.mapper.lab.now.ifaces) next.now.plugs }
+    ensures { IfOk result (λ still. (e : ℕ) → e < length search.now.mapper.ends.now
+        → slice_index_or still.items (slice_index_or search.now.mapper.ends.now e no_end).segment false ≡ true
+        → StaysAt search.now.mapper.lab.now last.now next.now e) }
 {
-    let mapper = moves.setting.mapper;
+    let mapper = search.mapper;
     let mut still = vec![in alloc; true; mapper.wiring.segments.len()]?;
     for number in 0..mapper.ends.len() {
         let one = last.plugs.as_slice()[number];
@@ -157,18 +158,18 @@ fn mark_ends(marks: &mut Vec<bool>, last: &Mapping, still: &[bool], ends: &[End]
 /// By node whether a step touches it.
 pub(crate) fn touched_nodes(
     alloc: Global,
-    moves: &Moves,
+    search: &Search,
     _rule: &StepRule,
     last: &Mapping,
     next: &Mapping,
 ) -> Result<Vec<bool>, Memory>
-    requires moves { IsMoves moves.now }
-    requires last { IsNodeMap (sought_of moves.now _rule.now.number) last.now }
-    requires next { IsNodeMap (sought_of moves.now _rule.now.number) next.now }
-    ensures { IfOk result (λ nodes. IsStep moves.now.setting.mapper.lab.now moves.now.setting.mapper.wiring.now last.now next.now nodes.items) }
+    requires search { IsSearch search.now }
+    requires last { IsNodeMap (sought_of search.now _rule.now.number) last.now }
+    requires next { IsNodeMap (sought_of search.now _rule.now.number) next.now }
+    ensures { IfOk result (λ nodes. IsStep search.now.mapper.lab.now search.now.mapper.wiring.now last.now next.now nodes.items) }
 {
-    let mapper = moves.setting.mapper;
-    let still = still_segments(alloc, moves, last, next)?;
+    let mapper = search.mapper;
+    let still = still_segments(alloc, search, last, next)?;
     let mut nodes = vec![in alloc; false; mapper.lab.nodes().len()]?;
     mark_places(&mut nodes, last, next);
     mark_ends(&mut nodes, last, &still, mapper.ends);
@@ -176,7 +177,7 @@ pub(crate) fn touched_nodes(
 }
 
 /// Whether a virtual node is a member of the class, stays where it is, and has that type.
-fn is_settler(
+fn is_staying(
     wiring: &Wiring,
     last: &Mapping,
     next: &Mapping,
@@ -187,7 +188,7 @@ fn is_settler(
     requires virt { virt < length wiring.now.nodes }
     requires last { length last.now.places ≡ length wiring.now.nodes }
     requires next { length next.now.places ≡ length wiring.now.nodes }
-    ensures { IsTrue result → IsSettler wiring.now last.now next.now class kind virt }
+    ensures { IsTrue result → IsStaying wiring.now last.now next.now class kind virt }
 {
     let Asks::Class(own) = wiring.nodes.as_slice()[virt].asks else {
         return false;
@@ -205,7 +206,7 @@ fn has_two(wiring: &Wiring, last: &Mapping, next: &Mapping, class: u16, kind: Na
     let mut found = false;
     let mut _first = 0;
     for virt in 0..wiring.nodes.len() {
-        if is_settler(wiring, last, next, class, kind, virt) {
+        if is_staying(wiring, last, next, class, kind, virt) {
             if found {
                 return true;
             }

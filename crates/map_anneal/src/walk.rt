@@ -3,16 +3,17 @@ ghost use Rattle.std.specs.Prelude.{◌≡◌, ◌<◌, ◌+◌, ◌*◌, ◌/�
 ghost use Rattle.node_maps.specs.Least.{IsFirstLeast};
 ghost use Rattle.virt_topo.specs.Soundness.{IsSound};
 ghost use Rattle.lab_model.specs.Shapes.{IsFreeOf};
+ghost use Rattle.map_state.specs.Tables.{IsSearch};
 ghost use Rattle.map_anneal.specs.Sought.{sought, choices, price, IsNodeMap};
-ghost use Rattle.map_anneal.specs.Searches.{sought_of, priced_by, IsMoves, IsPriced};
+ghost use Rattle.map_anneal.specs.Searches.{sought_of, priced_by, IsPriced};
 ghost use Rattle.map_anneal.specs.Walk.{drawn, one_try, round, cooled, walk as walk_of, Walker};
 
-use crate::moves::Moves;
 use crate::prepared::Prepared;
-use crate::search::Priced;
+use crate::priced::Priced;
 use crate::tried::Tried;
 use cost_rule::StepRule;
 use lab_base::Memory;
+use map_state::Search;
 use phys_lab::{Free, Lab};
 use rand_core::SeedableRng;
 use rand_core::utils::NextWord;
@@ -64,24 +65,23 @@ fn keep_cheaper(alloc: Global, best: &mut Priced, next: &Tried) -> Result<(), Me
     ensures { OnOk result (best.new ≡ (if nat_lt next.now.cost best.old.cost then priced_by next.now else best.old)) }
 {
     if next.cost < best.cost {
-        let taken = next.priced(alloc)?;
-        *best = taken;
+        next.copy_onto(alloc, best)?;
     }
     Ok(())
 }
 
 /// The map that a walk gives. Where it isn't the start, the rule's step from there tells its cost.
-fn told(moves: &Moves, rule: &StepRule, start: &Mapping, from: u64, best: Priced) -> Priced
-    requires moves { IsMoves moves.now }
-    requires start { IsNodeMap (sought_of moves.now rule.now.number) start.now }
-    requires from { from ≡ price (sought_of moves.now rule.now.number) start.now }
-    requires best { IsPriced (sought_of moves.now rule.now.number) best }
+fn told(search: &Search, rule: &StepRule, start: &Mapping, from: u64, best: Priced) -> Priced
+    requires search { IsSearch search.now }
+    requires start { IsNodeMap (sought_of search.now rule.now.number) start.now }
+    requires from { from ≡ price (sought_of search.now rule.now.number) start.now }
+    requires best { IsPriced (sought_of search.now rule.now.number) best }
     ensures { result ≡ best }
 {
     if best.cost >= from {
         return best;
     }
-    let mapper = moves.setting.mapper;
+    let mapper = search.mapper;
     let cost = rule.ask_step(mapper.lab, mapper.wiring, start, &best.mapping, from);
     Priced {
         mapping: best.mapping,
@@ -104,23 +104,23 @@ impl Walk {
     fn step(
         &mut self,
         alloc: Global,
-        moves: &Moves,
+        search: &Search,
         rule: &StepRule,
         heat: u64,
     ) -> Result<(), Memory>
-        requires moves { IsMoves moves.now }
-        requires walk { IsWalk moves.now rule.now.number self.old }
-        requires some { 0 < length (choices (sought_of moves.now rule.now.number)) }
-        ensures walk { OnOk result (IsWalk moves.now rule.now.number self.new) }
-        ensures step { OnOk result ((x : Walker) → Keeps (sought_of moves.now rule.now.number) self.old x
-            → Keeps (sought_of moves.now rule.now.number) self.new (one_try (sought_of moves.now rule.now.number) heat x)) }
+        requires search { IsSearch search.now }
+        requires walk { IsWalk search.now rule.now.number self.old }
+        requires some { 0 < length (choices (sought_of search.now rule.now.number)) }
+        ensures walk { OnOk result (IsWalk search.now rule.now.number self.new) }
+        ensures step { OnOk result ((x : Walker) → Keeps (sought_of search.now rule.now.number) self.old x
+            → Keeps (sought_of search.now rule.now.number) self.new (one_try (sought_of search.now rule.now.number) heat x)) }
     {
         let words = draw(&mut self.generator);
         let below = bound(self.last.cost, words.third, heat);
         let (first, second) = (words.first, words.second);
         if !self
             .last
-            .named_if(alloc, moves, rule, first, second, below)?
+            .try_random_move(alloc, search, rule, first, second, below)?
         {
             return Ok(());
         }
@@ -132,19 +132,19 @@ impl Walk {
     fn round(
         &mut self,
         alloc: Global,
-        moves: &Moves,
+        search: &Search,
         rule: &StepRule,
         heat: u64,
     ) -> Result<(), Memory>
-        requires moves { IsMoves moves.now }
-        requires walk { IsWalk moves.now rule.now.number self.old }
-        ensures walk { OnOk result (IsWalk moves.now rule.now.number self.new) }
-        ensures round { OnOk result ((x : Walker) → Keeps (sought_of moves.now rule.now.number) self.old x
-            → Keeps (sought_of moves.now rule.now.number) self.new (round (sought_of moves.now rule.now.number) heat x)) }
+        requires search { IsSearch search.now }
+        requires walk { IsWalk search.now rule.now.number self.old }
+        ensures walk { OnOk result (IsWalk search.now rule.now.number self.new) }
+        ensures round { OnOk result ((x : Walker) → Keeps (sought_of search.now rule.now.number) self.old x
+            → Keeps (sought_of search.now rule.now.number) self.new (round (sought_of search.now rule.now.number) heat x)) }
     {
-        let tries = 8 * moves.candidates.len();
+        let tries = 8 * search.candidates.len();
         for _number in 0..tries {
-            self.step(alloc, moves, rule, heat)?;
+            self.step(alloc, search, rule, heat)?;
         }
         Ok(())
     }
@@ -153,19 +153,19 @@ impl Walk {
     fn cool(
         &mut self,
         alloc: Global,
-        moves: &Moves,
+        search: &Search,
         rule: &StepRule,
         from: u64,
     ) -> Result<(), Memory>
-        requires moves { IsMoves moves.now }
-        requires walk { IsWalk moves.now rule.now.number self.old }
-        ensures walk { OnOk result (IsWalk moves.now rule.now.number self.new) }
-        ensures cooled { OnOk result ((x : Walker) → Keeps (sought_of moves.now rule.now.number) self.old x
-            → Keeps (sought_of moves.now rule.now.number) self.new (cooled (sought_of moves.now rule.now.number) from from x)) }
+        requires search { IsSearch search.now }
+        requires walk { IsWalk search.now rule.now.number self.old }
+        ensures walk { OnOk result (IsWalk search.now rule.now.number self.new) }
+        ensures cooled { OnOk result ((x : Walker) → Keeps (sought_of search.now rule.now.number) self.old x
+            → Keeps (sought_of search.now rule.now.number) self.new (cooled (sought_of search.now rule.now.number) from from x)) }
     {
         let mut heat = from;
         while heat > 0 {
-            self.round(alloc, moves, rule, heat)?;
+            self.round(alloc, search, rule, heat)?;
             heat = cooler(heat);
         }
         Ok(())
@@ -176,29 +176,29 @@ impl Walk {
 #[tactic(auto, unfolding(crate::specs::Walk::walk))]
 pub fn anneal_by(
     alloc: Global,
-    moves: &Moves,
+    search: &Search,
     start: &Mapping,
     rule: &StepRule,
     seed: u64,
 ) -> Result<Mapping, Memory>
-    requires moves { IsMoves moves.now }
-    requires start { IsNodeMap (sought_of moves.now rule.now.number) start.now }
-    ensures node_map { IfOk result (λ m. IsNodeMap (sought_of moves.now rule.now.number) m) }
-    ensures least { IfOk result (λ m. IsFirstLeast (price (sought_of moves.now rule.now.number))
-        (walk_of (sought_of moves.now rule.now.number) start.now seed) m) }
+    requires search { IsSearch search.now }
+    requires start { IsNodeMap (sought_of search.now rule.now.number) start.now }
+    ensures node_map { IfOk result (λ m. IsNodeMap (sought_of search.now rule.now.number) m) }
+    ensures least { IfOk result (λ m. IsFirstLeast (price (sought_of search.now rule.now.number))
+        (walk_of (sought_of search.now rule.now.number) start.now seed) m) }
 {
-    let last = moves.started(alloc, rule, start)?;
+    let last = Tried::of(alloc, search, rule, start)?;
     let cost = last.cost;
     let mut walk = Walk {
         best: last.priced(alloc)?,
         last,
         generator: Pcg32::seed_from_u64(seed),
     };
-    let cooled = walk.cool(alloc, moves, rule, cost);
+    let cooled = walk.cool(alloc, search, rule, cost);
     let Walk { best, last, .. } = walk;
     drop(last);
     cooled?;
-    let lowest = told(moves, rule, start, cost, best);
+    let lowest = told(search, rule, start, cost, best);
     Ok(lowest.mapping)
 }
 
@@ -220,7 +220,7 @@ pub fn anneal(
         (walk_of (sought lab.now free.now wiring.now rule.now.number) start.now seed) m) }
 {
     let prepared = Prepared::of(alloc, lab, free, wiring)?;
-    let moves = prepared.moves(lab, free, wiring);
-    let best = anneal_by(alloc, &moves, start, rule, seed)?;
+    let search = prepared.search(lab, free, wiring);
+    let best = anneal_by(alloc, &search, start, rule, seed)?;
     Ok(best)
 }

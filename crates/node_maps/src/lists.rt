@@ -73,13 +73,13 @@ impl Candidates {
     }
 
     /// A virtual node's candidate of that number.
-    pub fn at(&self, virt: usize, number: usize) -> Place
+    pub fn at(&self, virt: usize, number: usize) -> &Place
         requires virt { virt < length self.now }
         requires number { number < length (slice_index_or self.now virt []) }
-        ensures named { result ≡ slice_index_or (slice_index_or self.now virt []) number no_place }
-        ensures among { Contains (slice_index_or self.now virt []) result }
+        ensures named { result.now ≡ slice_index_or (slice_index_or self.now virt []) number no_place }
+        ensures among { Contains (slice_index_or self.now virt []) result.now }
     {
         let own = numbers_of(&self.lists, self.kinds[virt]);
-        self.places[own[number] as usize]
+        &self.places[own[number] as usize]
     }
 }

@@ -3,13 +3,15 @@ ghost use Rattle.std.specs.Prelude.{◌≡◌, ◌*◌, ◌/◌, IfOk};
 ghost use Rattle.virt_topo.specs.Soundness.{IsSound};
 ghost use Rattle.lab_model.specs.Shapes.{IsFreeOf, IsShaped};
 ghost use Rattle.map_anneal.specs.Sought.{sought, IsNodeMap};
-ghost use Rattle.map_anneal.specs.Searches.{IsMoves, sought_of};
+ghost use Rattle.map_state.specs.Tables.{IsSearch};
+ghost use Rattle.map_anneal.specs.Searches.{sought_of};
 
 use crate::problem::Problem;
 use assign_core::first_fit;
 use cost_rule::StepRule;
 use lab_base::{Kind, Memory, Text};
-use map_anneal::{Moves, Prepared, anneal_by};
+use map_anneal::{Prepared, anneal_by};
+use map_state::Search;
 use row_words::Untold;
 use std::alloc::Global;
 use virt_topo::Mapping;
@@ -53,15 +55,15 @@ pub fn start_of(alloc: Global, problem: &Problem<'_>, rule: &StepRule) -> Result
 fn walk(
     alloc: Global,
     times: u64,
-    moves: &Moves,
+    search: &Search,
     start: &Mapping,
     rule: &StepRule,
 ) -> Result<(), Memory>
-    requires moves { IsMoves moves.now }
-    requires start { IsNodeMap (sought_of moves.now rule.now.number) start.now }
+    requires search { IsSearch search.now }
+    requires start { IsNodeMap (sought_of search.now rule.now.number) start.now }
 {
     for _time in 0..times {
-        if let Err(memory) = anneal_by(alloc, moves, start, rule, SEED) {
+        if let Err(memory) = anneal_by(alloc, search, start, rule, SEED) {
             return Err(memory);
         }
     }
@@ -85,8 +87,8 @@ fn push_walks(
     let rounds = rounds_from(rule.ask(problem.lab, problem.wiring, start));
     let tries = rounds.saturating_mul(8 * problem.wiring.nodes.len() as u64);
     let prepared = Prepared::of(alloc, problem.lab, problem.free, problem.wiring)?;
-    let moves = prepared.moves(problem.lab, problem.free, problem.wiring);
-    let walked = walk(alloc, times, &moves, start, rule);
+    let search = prepared.search(problem.lab, problem.free, problem.wiring);
+    let walked = walk(alloc, times, &search, start, rule);
     drop(prepared);
     walked?;
     out.push_number(tries.saturating_mul(times))?;

@@ -12,11 +12,11 @@ use Rattle.assign_core.proofs.exact.+explore.Goals as goal
 
 pub returns-then-begun-len-clause-best : goal.returns-then-begun-len-clause-best
 returns-then-begun-len-clause-best g t c = λ maps h.
-    let s = sought_of c.args.moves.now c.args.rule.now.number in
+    let s = sought_of c.args.search.now c.args.rule.now.number in
     let n = c.args.begun in
-    let places = c.args.chosen.now.board.mapping.places in
-    let whole : length (choices s) ≤ n = omega (arith, c.if-begun-len.true, c.len.ensures, ap length c.requires.moves.listed) in
-    let count = c.requires.chosen.laid.choice.one_each in
+    let places = c.args.chosen.now.state.mapping.places in
+    let whole : length (choices s) ≤ n = omega (arith, c.if-begun-len.true, c.len.ensures, ap length c.requires.search.listed) in
+    let count = c.requires.chosen.state.choice.one_each in
     let all : take n places ≡ places = take_all n places (omega (arith, whole, count)) in
     let same : found s (take n places ∷ []) (drop n (choices s)) ≡ cons_option (mapped s places) [] =
     ap (λ p. found s (p ∷ []) (drop n (choices s))) all ∙ found_whole s places (drop n (choices s)) (drop_all n (choices s) whole) in
@@ -24,7 +24,7 @@ returns-then-begun-len-clause-best g t c = λ maps h.
 
 pub loop-number-init : goal.loop-number-init
 loop-number-init g t c =
-    let s = sought_of c.args.moves.now c.args.rule.now.number in
+    let s = sought_of c.args.search.now c.args.rule.now.number in
     let rest = drop (c.args.begun + 1) (choices s) in
     record {
       chosen = c.requires.chosen;
@@ -37,39 +37,39 @@ loop-number-init g t c =
 
 pub put-requires-clause-virt : goal.put-requires-clause-virt
 put-requires-clause-virt g t c =
-    let x = c.args.moves.now.setting.mapper in
+    let x = c.args.search.now.mapper in
     let all = candidates_count x.lab.now x.free.now x.wiring.now in
-    omega (arith, c.requires.begun, c.if-begun-len.false, c.len.ensures, ap length c.requires.moves.listed, all)
+    omega (arith, c.requires.begun, c.if-begun-len.false, c.len.ensures, ap length c.requires.search.listed, all)
 
 pub put-requires-clause-among : goal.put-requires-clause-among
 put-requires-clause-among g t c =
-    let listed = ap (λ xs. get_or xs c.args.begun []) c.requires.moves.listed in
-    subst (λ (xs : List Place). Contains xs c.at-place.result) listed c.at-place.ensures.among
+    let listed = ap (λ xs. get_or xs c.args.begun []) c.requires.search.listed in
+    subst (λ (xs : List Place). Contains xs c.at-place.result.now) listed c.at-place.ensures.among
 
 pub explore-requires : goal.explore-requires
 explore-requires g t c = (
-  omega (arith, c.decreases, c.requires.begun, c.if-begun-len.false, c.len.ensures, ap length c.requires.moves.listed),
-  (c.requires.moves, (c.put.ensures.chosen, (omega (arith, c.requires.begun, c.if-begun-len.false, c.len.ensures, ap length c.requires.moves.listed), c.loop-number.invariant.priced))),
+  omega (arith, c.decreases, c.requires.begun, c.if-begun-len.false, c.len.ensures, ap length c.requires.search.listed),
+  (c.requires.search, (c.put.ensures.chosen, (omega (arith, c.requires.begun, c.if-begun-len.false, c.len.ensures, ap length c.requires.search.listed), c.loop-number.invariant.priced))),
 )
 
 pub loop-number-preserved : goal.loop-number-preserved
 loop-number-preserved g t c =
-    let s = sought_of c.args.moves.now c.args.rule.now.number in
+    let s = sought_of c.args.search.now c.args.rule.now.number in
     let n = c.args.begun in
-    let start = c.args.chosen.now.board.mapping.places in
-    let before = c.loop-number.chosen.board.mapping.places in
+    let start = c.args.chosen.now.state.mapping.places in
+    let before = c.loop-number.chosen.state.mapping.places in
     let items = get_or (choices s) n [] in
     let k = c.loop-number.number in
-    let x = c.at-place.result in
-    let listed = ap (λ xs. get_or xs n []) c.requires.moves.listed in
+    let x = c.at-place.result.now in
+    let listed = ap (λ xs. get_or xs n []) c.requires.search.listed in
     let k_lt : k < length items = omega (arith, c.loop-number-test.true, c.count-number-end.ensures, ap length listed) in
     let is : x ≡ get_or items k x = c.at-place.ensures.named ∙ ap (λ (l : List Place). get_or l k no_place) listed ∙ get_or_default items k no_place x k_lt in
     let rest = drop (n + 1) (choices s) in
-    let put = c.put.new.self.board.mapping.places in
-    let last = c.explore.new.chosen.board.mapping.places in
+    let put = c.put.new.self.state.mapping.places in
+    let last = c.explore.new.chosen.state.mapping.places in
     let known = c.loop-number.invariant in
-    let count = known.chosen.laid.choice.one_each in
-    let lt : n < length before = omega (arith, c.requires.begun, c.if-begun-len.false, c.len.ensures, ap length c.requires.moves.listed, count) in
+    let count = known.chosen.state.choice.one_each in
+    let lt : n < length before = omega (arith, c.requires.begun, c.if-begun-len.false, c.len.ensures, ap length c.requires.search.listed, count) in
     let more : take (n + 1) put ≡ take n start ++ x ∷ [] =
     ap (take (n + 1)) c.put.ensures.places ∙ take_more_set before n x lt ∙ ap (λ xs. xs ++ x ∷ []) known.begun in
     record {
@@ -87,13 +87,13 @@ loop-number-preserved g t c =
 
 pub returns-clause-best : goal.returns-clause-best
 returns-clause-best g t c = λ maps h.
-    let s = sought_of c.args.moves.now c.args.rule.now.number in
+    let s = sought_of c.args.search.now c.args.rule.now.number in
     let n = c.args.begun in
-    let places = take n c.args.chosen.now.board.mapping.places in
+    let places = take n c.args.chosen.now.state.mapping.places in
     let items = get_or (choices s) n [] in
     let rest = drop (n + 1) (choices s) in
-    let listed = ap (λ xs. get_or xs n []) c.requires.moves.listed in
+    let listed = ap (λ xs. get_or xs n []) c.requires.search.listed in
     let all : take c.loop-number.number items ≡ items = take_all c.loop-number.number items (omega (arith, c.loop-number-test.false, c.count-number-end.ensures, ap length listed)) in
-    let lt : n < length (choices s) = omega (arith, c.requires.begun, c.if-begun-len.false, c.len.ensures, ap length c.requires.moves.listed) in
+    let lt : n < length (choices s) = omega (arith, c.requires.begun, c.if-begun-len.false, c.len.ensures, ap length c.requires.search.listed) in
     let end = ap (λ xs. maps ++ found s (with_each places xs) rest) all ∙ ap (λ xs. maps ++ xs) (sym (found_here s places (choices s) n lt)) in
     subst (λ xs. IsBest s xs c.loop-number.kept) end (c.loop-number.invariant.best maps h)

@@ -1,5 +1,5 @@
 use Rattle.std.proofs.Common.{[], Option, refl, subst}
-use Rattle.map_anneal.specs.declared.search.Priced.{Priced}
+use Rattle.map_anneal.specs.declared.priced.Priced.{Priced}
 use Rattle.map_anneal.specs.Searches.{sought_of}
 use Rattle.assign_core.specs.Bests.{IsBest}
 use Rattle.assign_core.specs.Exact.{node_maps}
@@ -8,7 +8,7 @@ use Rattle.assign_core.proofs.exact.best_by.Goals as goal
 pub returns-in-Some-found-clause-cheapest : goal.returns-in-Some-found-clause-cheapest
 unfolding node_maps
 returns-in-Some-found-clause-cheapest g c =
-    let s = sought_of c.args.moves.now c.args.rule.now.number in
+    let s = sought_of c.args.search.now c.args.rule.now.number in
     let P : Option Priced → Type 0 = λ best. IsBest s (node_maps s) best in
     let best = subst P c.in-Some-found.is (c.in_ok-found.ensures.best [] refl) in
     (best.least, best.priced.cost)
@@ -16,7 +16,7 @@ returns-in-Some-found-clause-cheapest g c =
 pub returns-in-Some-found-clause-node_map : goal.returns-in-Some-found-clause-node_map
 unfolding node_maps
 returns-in-Some-found-clause-node_map g c =
-    let s = sought_of c.args.moves.now c.args.rule.now.number in
+    let s = sought_of c.args.search.now c.args.rule.now.number in
     let P : Option Priced → Type 0 = λ best. IsBest s (node_maps s) best in
     let best = subst P c.in-Some-found.is (c.in_ok-found.ensures.best [] refl) in
     best.priced.node_map
@@ -24,6 +24,6 @@ returns-in-Some-found-clause-node_map g c =
 pub returns-clause-cheapest : goal.returns-clause-cheapest
 unfolding node_maps
 returns-clause-cheapest g c =
-    let s = sought_of c.args.moves.now c.args.rule.now.number in
+    let s = sought_of c.args.search.now c.args.rule.now.number in
     let P : Option Priced → Type 0 = λ best. IsBest s (node_maps s) best in
     subst P c.in-None.is (c.in_ok-found.ensures.best [] refl)

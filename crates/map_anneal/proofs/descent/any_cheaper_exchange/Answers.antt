@@ -10,8 +10,8 @@ use Rattle.map_anneal.proofs.descent.any_cheaper_exchange.Goals as goal
 
 pub cheaper_exchange_of-requires-clause-row : goal.cheaper_exchange_of-requires-clause-row
 cheaper_exchange_of-requires-clause-row g c =
-    let s = sought_of c.args.moves.now c.args.rule.now.number in
-    let m = c.args.at.now.board.mapping in
+    let s = sought_of c.args.search.now c.args.rule.now.number in
+    let m = c.args.at.now.state.mapping in
     let v = c.loop-first.first in
     let was = c.loop-first.invariant in
     let rows = c.loop-first.pairs.items in
@@ -24,8 +24,8 @@ cheaper_exchange_of-requires-clause-row g c =
 
 pub returns-then-branch-clause-pairs : goal.returns-then-branch-clause-pairs
 returns-then-branch-clause-pairs g c =
-    let s = sought_of c.args.moves.now c.args.rule.now.number in
-    let m = c.args.at.now.board.mapping in
+    let s = sought_of c.args.search.now c.args.rule.now.number in
+    let m = c.args.at.now.state.mapping in
     let v = c.loop-first.first in
     let was = c.loop-first.invariant in
     let rows = c.loop-first.pairs.items in
@@ -37,8 +37,8 @@ returns-then-branch-clause-pairs g c =
 
 pub loop-first-preserved : goal.loop-first-preserved
 loop-first-preserved g c =
-    let s = sought_of c.args.moves.now c.args.rule.now.number in
-    let m = c.args.at.now.board.mapping in
+    let s = sought_of c.args.search.now c.args.rule.now.number in
+    let m = c.args.at.now.state.mapping in
     let v = c.loop-first.first in
     let was = c.loop-first.invariant in
     let rows = c.loop-first.pairs.items in

@@ -9,8 +9,8 @@ use Rattle.map_anneal.proofs.descent.any_cheaper_move.Goals as goal
 
 pub loop-node-preserved : goal.loop-node-preserved
 loop-node-preserved g c =
-    let s = sought_of c.args.moves.now c.args.rule.now.number in
-    let m = c.args.at.now.board.mapping in
+    let s = sought_of c.args.search.now c.args.rule.now.number in
+    let m = c.args.at.now.state.mapping in
     let v = c.loop-node.node in
     let was = c.loop-node.invariant in
     let rows = c.loop-node.rows.items in

@@ -10,8 +10,8 @@ use Rattle.map_anneal.proofs.descent.cheaper_exchange_of.Goals as goal
 
 pub loop-second-init : goal.loop-second-init
 loop-second-init g c =
-    let s = sought_of c.args.moves.now c.args.rule.now.number in
-    let m = c.args.at.now.board.mapping in
+    let s = sought_of c.args.search.now c.args.rule.now.number in
+    let m = c.args.at.now.state.mapping in
     let v = c.args.first in
     let found = c.unknown_from-second.ensures in
     record {
@@ -25,8 +25,8 @@ loop-second-init g c =
 
 pub loop-second-preserved : goal.loop-second-preserved
 loop-second-preserved g c =
-    let s = sought_of c.args.moves.now c.args.rule.now.number in
-    let m = c.args.at.now.board.mapping in
+    let s = sought_of c.args.search.now c.args.rule.now.number in
+    let m = c.args.at.now.state.mapping in
     let v = c.args.first in
     let u = c.loop-second.second in
     let was = c.loop-second.invariant in

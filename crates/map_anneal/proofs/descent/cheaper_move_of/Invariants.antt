@@ -7,13 +7,13 @@ use Rattle.map_anneal.proofs.descent.cheaper_move_of.Given as goal
 
 abbrev pub invariant-loop-number : goal.invariant-loop-number
 invariant-loop-number g l = record {
-  tried : IsTried l.moves l.rule.number l.at;
-  same : l.at.board.mapping ≡ l.initial.at.board.mapping;
+  tried : IsTried l.search l.rule.number l.at;
+  same : l.at.state.mapping ≡ l.initial.at.state.mapping;
   cost : l.at.cost ≡ l.initial.at.cost;
-  row : IsRow (sought_of l.moves l.rule.number) l.initial.at.board.mapping l.node l.row;
+  row : IsRow (sought_of l.search l.rule.number) l.initial.at.state.mapping l.node l.row;
   none : (k : ℕ) → k < l.number
-      → IsNoCheaper (sought_of l.moves l.rule.number) l.initial.at.board.mapping (moved (sought_of l.moves l.rule.number) l.initial.at.board.mapping l.node (get_or (candidates_at (sought_of l.moves l.rule.number) l.node) k no_place));
+      → IsNoCheaper (sought_of l.search l.rule.number) l.initial.at.state.mapping (moved (sought_of l.search l.rule.number) l.initial.at.state.mapping l.node (get_or (candidates_at (sought_of l.search l.rule.number) l.node) k no_place));
 }
 
 abbrev pub decreases-loop-number : goal.decreases-loop-number
-decreases-loop-number g l = length (candidates_at (sought_of l.moves l.rule.number) l.node) - l.number
+decreases-loop-number g l = length (candidates_at (sought_of l.search l.rule.number) l.node) - l.number

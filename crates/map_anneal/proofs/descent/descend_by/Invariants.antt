@@ -6,11 +6,11 @@ use Rattle.map_anneal.proofs.descent.descend_by.Given as goal
 
 abbrev pub invariant-loop-better : goal.invariant-loop-better
 invariant-loop-better g l = record {
-  tried : IsTried l.moves l.rule.number l.at;
+  tried : IsTried l.search l.rule.number l.at;
   lowest : l.lowest ≡ priced_by l.at;
-  known : IsKnown (sought_of l.moves l.rule.number) l.at.board.mapping l.known;
-  cheaper : l.at.cost ≤ price (sought_of l.moves l.rule.number) l.start;
-  best : l.better ≡ false → LocallyBest (sought_of l.moves l.rule.number) l.at.board.mapping;
+  known : IsKnown (sought_of l.search l.rule.number) l.at.state.mapping l.known;
+  cheaper : l.at.cost ≤ price (sought_of l.search l.rule.number) l.start;
+  best : l.better ≡ false → LocallyBest (sought_of l.search l.rule.number) l.at.state.mapping;
 }
 
 abbrev pub decreases-loop-better : goal.decreases-loop-better

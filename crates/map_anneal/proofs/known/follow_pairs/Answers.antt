@@ -19,7 +19,7 @@ one_more P rows virt new lt done here v less = elim (cases_eq v virt) [
 
 pub forget-requires : goal.forget-requires
 forget-requires g c =
-    let x = c.args._moves.now.setting.mapper in
+    let x = c.args._search.now.mapper in
     let v = c.loop-virt.virt in
     let was = c.loop-virt.invariant in
     let pairs = c.loop-virt.pairs.items in
@@ -35,8 +35,8 @@ forget-requires g c =
 
 pub loop-virt-preserved : goal.loop-virt-preserved
 loop-virt-preserved g c =
-    let x = c.args._moves.now.setting.mapper in
-    let s = sought_of c.args._moves.now c.args._rule.now.number in
+    let x = c.args._search.now.mapper in
+    let s = sought_of c.args._search.now c.args._rule.now.number in
     let last = c.args._last.now in
     let next = c.args._next.now in
     let touched = c.requires.touched in
@@ -53,7 +53,7 @@ loop-virt-preserved g c =
     let its : ◌≡◌ {A = ℕ} (length old) (length (get_or c.args.pairs.now.items v [])) = ap length is_old in
     let forgot = c.forget.ensures in
     let pairs = pairs_after s last next c.args.touched.now v old c.forget.new.self
-    (record { sound = c.requires.moves.setting.mapper.sound; first = c.requires.last; second = c.requires.next })
+    (record { sound = c.requires.search.mapper.sound; first = c.requires.last; second = c.requires.next })
     all v_in touched (subst (λ (r : List Bool). IsPairs s last v r) (sym is_old) (c.requires.pairs.each v (omega (arith, v_in, all))))
     (record {
       count = forgot.one_each;

@@ -6,6 +6,6 @@ use Rattle.map_anneal.proofs.known.follow_pairs.Given as goal
 abbrev pub invariant-loop-virt : goal.invariant-loop-virt
 invariant-loop-virt g l = record {
   count : length l.pairs.items ≡ length l.initial.pairs.items;
-  done : (v : ℕ) → v < l.virt → IsPairs (sought_of l._moves l._rule.number) l._next v (get_or l.pairs.items v []);
+  done : (v : ℕ) → v < l.virt → IsPairs (sought_of l._search l._rule.number) l._next v (get_or l.pairs.items v []);
   later : (v : ℕ) → l.virt ≤ v → get_or l.pairs.items v [] ≡ get_or l.initial.pairs.items v [];
 }

@@ -27,23 +27,23 @@ numbers_are nodes listed marked v numbers is all lt = is ∙ ap (λ (l : List (L
 
 pub of-requires : goal.of-requires
 of-requires g c =
-    let x = c.args._moves.now.setting.mapper in
+    let x = c.args._search.now.mapper in
     let marked = ap length c.requires.candidates in
-    let count = length-map c.args._moves.now.candidates.now (marked_of c.args.touched.now.nodes.items) in
-    omega (arith, marked, count, ap length c.requires.moves.listed, c.requires.rows.one_each, c.loop-virt.invariant.count, c.loop-virt-test.true, c.len-virt-end.ensures)
+    let count = length-map c.args._search.now.candidates.now (marked_of c.args.touched.now.nodes.items) in
+    omega (arith, marked, count, ap length c.requires.search.listed, c.requires.rows.one_each, c.loop-virt.invariant.count, c.loop-virt-test.true, c.len-virt-end.ensures)
 
 pub forget-requires : goal.forget-requires
 forget-requires g c =
-    let s = sought_of c.args._moves.now c.args._rule.now.number in
-    let x = c.args._moves.now.setting.mapper in
+    let s = sought_of c.args._search.now c.args._rule.now.number in
+    let x = c.args._search.now.mapper in
     let v = c.loop-virt.virt in
     let was = c.loop-virt.invariant in
     let rows = c.loop-virt.rows.items in
     let nodes = c.args.touched.now.nodes.items in
-    let listed = c.args._moves.now.candidates.now in
+    let listed = c.args._search.now.candidates.now in
     let count = was.count in
     let each = c.requires.rows.one_each in
-    let same : listed ≡ choices s = c.requires.moves.listed in
+    let same : listed ≡ choices s = c.requires.search.listed in
     let all = ap length same in
     let lt : v < length rows = omega (arith, c.loop-virt-test.true, c.len-virt-end.ensures) in
     let here : v < length listed = omega (arith, lt, count, each, all) in
@@ -58,8 +58,8 @@ forget-requires g c =
 
 pub loop-virt-preserved : goal.loop-virt-preserved
 loop-virt-preserved g c =
-    let x = c.args._moves.now.setting.mapper in
-    let s = sought_of c.args._moves.now c.args._rule.now.number in
+    let x = c.args._search.now.mapper in
+    let s = sought_of c.args._search.now c.args._rule.now.number in
     let last = c.args._last.now in
     let next = c.args._next.now in
     let touched = c.requires.touched in
@@ -74,20 +74,20 @@ loop-virt-preserved g c =
     let is_old : old ≡ get_or c.args.rows.now.items v [] = at ∙ was.later v (omega arith) in
     let forgot = c.forget.ensures in
     let nodes = c.args.touched.now.nodes.items in
-    let listed = c.args._moves.now.candidates.now in
-    let here : v < length listed = omega (arith, v_in, all, ap length c.requires.moves.listed) in
+    let listed = c.args._search.now.candidates.now in
+    let here : v < length listed = omega (arith, v_in, all, ap length c.requires.search.listed) in
     let numbers = numbers_are nodes listed c.args.touched.now.candidates v c.of.result.now c.of.ensures c.requires.candidates here in
     let marks = length-map (get_or listed v []) (λ (p : Place). get_or nodes p.0.0 true) in
     let own = (c.requires.rows.each v (omega (arith, v_in, all))).one_each in
     let its : ◌≡◌ {A = ℕ} (length old) (length (get_or c.args.rows.now.items v [])) = ap length is_old in
-    let candidates : ◌≡◌ {A = ℕ} (length (get_or listed v [])) (length (candidates_at s v)) = ap (λ (l : List (List Place)). length (get_or l v [])) c.requires.moves.listed in
+    let candidates : ◌≡◌ {A = ℕ} (length (get_or listed v [])) (length (candidates_at s v)) = ap (λ (l : List (List Place)). length (get_or l v [])) c.requires.search.listed in
     let row = row_after s last next v c.args.touched.now.nodes.items old c.forget.new.self
-    (record { sound = c.requires.moves.setting.mapper.sound; first = c.requires.last; second = c.requires.next })
+    (record { sound = c.requires.search.mapper.sound; first = c.requires.last; second = c.requires.next })
     v_in touched.nodes (subst (λ (r : List Bool). IsRow s last v r) (sym is_old) (c.requires.rows.each v (omega (arith, v_in, all))))
     (record {
       count = forgot.one_each;
       known = λ k lt yes. forgot.known k yes;
-      taken = λ k lt yes. subst (λ (l : List (List Place)). get_or (marks_of nodes (get_or l v [])) k true ≡ false) c.requires.moves.listed
+      taken = λ k lt yes. subst (λ (l : List (List Place)). get_or (marks_of nodes (get_or l v [])) k true ≡ false) c.requires.search.listed
           (known_unmarked (marks_of nodes (get_or listed v [])) c.forget.new.self c.of.result.now k numbers forgot.gone (omega (arith, lt, own, its, candidates, marks)) yes);
       here = λ k lt yes. (touched.virts v (sym c.has-all.ensures ∙ forgot.all k yes)).here;
       class = λ k lt yes. (touched.virts v (sym c.has-all.ensures ∙ forgot.all k yes)).class;

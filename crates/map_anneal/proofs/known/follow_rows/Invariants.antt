@@ -6,6 +6,6 @@ use Rattle.map_anneal.proofs.known.follow_rows.Given as goal
 abbrev pub invariant-loop-virt : goal.invariant-loop-virt
 invariant-loop-virt g l = record {
   count : length l.rows.items ≡ length l.initial.rows.items;
-  done : (v : ℕ) → v < l.virt → IsRow (sought_of l._moves l._rule.number) l._next v (get_or l.rows.items v []);
+  done : (v : ℕ) → v < l.virt → IsRow (sought_of l._search l._rule.number) l._next v (get_or l.rows.items v []);
   later : (v : ℕ) → l.virt ≤ v → get_or l.rows.items v [] ≡ get_or l.initial.rows.items v [];
 }

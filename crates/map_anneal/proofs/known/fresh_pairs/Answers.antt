@@ -17,7 +17,7 @@ one_pushed P rows virt new count done here v less = elim (cases_eq v virt) [
 
 pub loop-virt-preserved : goal.loop-virt-preserved
 loop-virt-preserved g c =
-    let s = sought_of c.args.moves.now c.args._rule.now.number in
+    let s = sought_of c.args.search.now c.args._rule.now.number in
     let m = c.args._start.now in
     let v = c.loop-virt._virt in
     let was = c.loop-virt.invariant in

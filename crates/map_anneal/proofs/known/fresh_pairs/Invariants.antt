@@ -6,5 +6,5 @@ use Rattle.map_anneal.proofs.known.fresh_pairs.Given as goal
 abbrev pub invariant-loop-virt : goal.invariant-loop-virt
 invariant-loop-virt g l = record {
   count : length l.pairs.items ≡ l._virt;
-  each : (v : ℕ) → v < l._virt → IsPairs (sought_of l.moves l._rule.number) l._start v (get_or l.pairs.items v []);
+  each : (v : ℕ) → v < l._virt → IsPairs (sought_of l.search l._rule.number) l._start v (get_or l.pairs.items v []);
 }

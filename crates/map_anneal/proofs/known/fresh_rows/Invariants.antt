@@ -6,5 +6,5 @@ use Rattle.map_anneal.proofs.known.fresh_rows.Given as goal
 abbrev pub invariant-loop-virt : goal.invariant-loop-virt
 invariant-loop-virt g l = record {
   count : length l.rows.items ≡ l.virt;
-  each : (v : ℕ) → v < l.virt → IsRow (sought_of l.moves l._rule.number) l._start v (get_or l.rows.items v []);
+  each : (v : ℕ) → v < l.virt → IsRow (sought_of l.search l._rule.number) l._start v (get_or l.rows.items v []);
 }

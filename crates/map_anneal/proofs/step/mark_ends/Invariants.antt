@@ -1,6 +1,6 @@
 use Rattle.std.proofs.Common.{◌≡◌, ◌≢◌, ◌<◌, ℕ, true, false, get_or}
 use Rattle.lab_model.specs.Rules.{place_at}
-use Rattle.map_board.specs.Nodes.{no_end}
+use Rattle.map_state.specs.Nodes.{no_end}
 use Rattle.map_anneal.proofs.step.mark_ends.Given as goal
 
 abbrev pub invariant-loop-end : goal.invariant-loop-end

@@ -2,7 +2,7 @@ use Rattle.std.proofs.Common.{rules, ◌∙◌, ◌∷◌, [], ℕ, ap, sym, sub
 use Rattle.virt_topo.specs.declared.mapping.Mapping.{Mapping}
 use Rattle.node_maps.specs.Least.{IsFirstLeast}
 use Rattle.node_maps.proofs.Leasts.{least_alone}
-use Rattle.map_anneal.specs.declared.search.Priced.{Priced}
+use Rattle.map_anneal.specs.declared.priced.Priced.{Priced}
 use Rattle.map_anneal.specs.Sought.{price}
 use Rattle.map_anneal.specs.Searches.{sought_of}
 use Rattle.map_anneal.specs.Walk.{started, cooled, walk}
@@ -11,7 +11,7 @@ use Rattle.map_anneal.proofs.walk.anneal_by.Goals as goal
 pub returns-clause-least : goal.returns-clause-least
 unfolding walk
 returns-clause-least g c =
-    let s = sought_of c.args.moves.now c.args.rule.now.number in
+    let s = sought_of c.args.search.now c.args.rule.now.number in
     let start = c.args.start.now in
     let best = c.cool-cooled.new.self.best.mapping in
     let Alone : Mapping → Type 0 = λ m. IsFirstLeast (price s) (start ∷ []) m in

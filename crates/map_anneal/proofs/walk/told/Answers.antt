@@ -4,10 +4,10 @@ use Rattle.map_anneal.proofs.Prices.{map_shaped}
 use Rattle.map_anneal.proofs.walk.told.Goals as goal
 
 pub ask_step-cost-requires-clause-from : goal.ask_step-cost-requires-clause-from
-ask_step-cost-requires-clause-from g c = map_shaped (sought_of c.args.moves.now c.args.rule.now.number) c.args.start.now c.requires.moves.setting.mapper.sound c.requires.start
+ask_step-cost-requires-clause-from g c = map_shaped (sought_of c.args.search.now c.args.rule.now.number) c.args.start.now c.requires.search.mapper.sound c.requires.start
 
 pub ask_step-cost-requires-clause-to : goal.ask_step-cost-requires-clause-to
-ask_step-cost-requires-clause-to g c = map_shaped (sought_of c.args.moves.now c.args.rule.now.number) c.args.best.mapping c.requires.moves.setting.mapper.sound c.requires.best.node_map
+ask_step-cost-requires-clause-to g c = map_shaped (sought_of c.args.search.now c.args.rule.now.number) c.args.best.mapping c.requires.search.mapper.sound c.requires.best.node_map
 
 pub returns : goal.returns
 returns g c =

@@ -1,0 +1,78 @@
+use Rattle.std.proofs.Common.{◌≡◌, ◌<◌, ◌%◌, ◌∙◌, ℕ, length, sym, ap, arith}
+use Rattle.virt_topo.specs.declared.mapping.Mapping.{Mapping}
+use Rattle.map_state.proofs.Choices.{choice_some}
+use Rattle.map_anneal.specs.Sought.{Sought, choices, candidates_at, moved}
+use Rattle.map_anneal.specs.Searches.{sought_of}
+use Rattle.map_anneal.specs.Walk.{named}
+use Rattle.map_anneal.proofs.RoomLaws.{search_rooms, rooms_count, own_count, few_candidates}
+use Rattle.map_anneal.proofs.TriedMoves.{candidate_at}
+use Rattle.map_anneal.proofs.tried.Tried.try_random_move.Goals as goal
+
+pub number-number-requires-clause-some : goal.number-number-requires-clause-some
+number-number-requires-clause-some g c =
+    let search = c.args.search.now in
+    let cs = choices (sought_of search c.args.rule.now.number) in
+    let v = c.virt-node.result in
+    let rooms = search_rooms search c.args.rule.now.number c.requires.search in
+    let count = rooms_count search.mapper.lab.now cs search.rooms.now rooms in
+    let within : v < length cs = omega (arith, c.virt-node.ensures, count, c.requires.some) in
+    let own = own_count search.mapper.lab.now cs search.rooms.now v rooms within in
+    let some = choice_some cs c.args.self.now.state.mapping.places v c.requires.tried.state.state.choice within in
+    omega (arith, own, some)
+
+pub number-number-requires-clause-few : goal.number-number-requires-clause-few
+number-number-requires-clause-few g c =
+    let search = c.args.search.now in
+    let s = sought_of search c.args.rule.now.number in
+    let v = c.virt-node.result in
+    let rooms = search_rooms search c.args.rule.now.number c.requires.search in
+    let count = rooms_count s.lab (choices s) search.rooms.now rooms in
+    let within : v < length (choices s) = omega (arith, c.virt-node.ensures, count, c.requires.some) in
+    let own = own_count s.lab (choices s) search.rooms.now v rooms within in
+    omega (arith, own, few_candidates s.lab s.free s.wiring v c.range-kept.ensures.lab within)
+
+pub move_if_cheaper-requires-clause-number : goal.move_if_cheaper-requires-clause-number
+move_if_cheaper-requires-clause-number g c =
+    let search = c.args.search.now in
+    let cs = choices (sought_of search c.args.rule.now.number) in
+    let v = c.virt-node.result in
+    let rooms = search_rooms search c.args.rule.now.number c.requires.search in
+    let count = rooms_count search.mapper.lab.now cs search.rooms.now rooms in
+    let within : v < length cs = omega (arith, c.virt-node.ensures, count, c.requires.some) in
+    let own = own_count search.mapper.lab.now cs search.rooms.now v rooms within in
+    let some = choice_some cs c.args.self.now.state.mapping.places v c.requires.tried.state.state.choice within in
+    omega (arith, c.number-number.ensures, own, some)
+
+-- the move that two words name
+named_is : (s : Sought) (last : Mapping) (first second v number : ℕ) → v ≡ first % length (choices s) → number ≡ second % length (candidates_at s v)
+    → moved s last v (candidate_at s v number) ≡ named s last first second
+unfolding named
+named_is s last first second v number at is =
+    ap (λ (k : ℕ). moved s last v (candidate_at s v k)) is ∙ ap (λ (u : ℕ). moved s last u (candidate_at s u (second % length (candidates_at s u)))) at
+
+pub returns-clause-map : goal.returns-clause-map
+returns-clause-map g c = λ is.
+    let search = c.args.search.now in
+    let s = sought_of search c.args.rule.now.number in
+    let v = c.virt-node.result in
+    let rooms = search_rooms search c.args.rule.now.number c.requires.search in
+    let count = rooms_count s.lab (choices s) search.rooms.now rooms in
+    let within : v < length (choices s) = omega (arith, c.virt-node.ensures, count, c.requires.some) in
+    let own = own_count s.lab (choices s) search.rooms.now v rooms within in
+    sym (named_is s c.args.self.now.state.mapping c.args.first c.args.second v c.number-number.result
+    (c.virt-node.ensures ∙ ap (λ (n : ℕ). c.args.first % n) count) (c.number-number.ensures ∙ ap (λ (n : ℕ). c.args.second % n) own))
+    ∙ c.in_ok-yes.ensures.map is
+
+pub returns-clause-over : goal.returns-clause-over
+returns-clause-over g c = λ is m found.
+    let search = c.args.search.now in
+    let s = sought_of search c.args.rule.now.number in
+    let v = c.virt-node.result in
+    let rooms = search_rooms search c.args.rule.now.number c.requires.search in
+    let count = rooms_count s.lab (choices s) search.rooms.now rooms in
+    let within : v < length (choices s) = omega (arith, c.virt-node.ensures, count, c.requires.some) in
+    let own = own_count s.lab (choices s) search.rooms.now v rooms within in
+    c.in_ok-yes.ensures.over is m
+    (named_is s c.args.self.now.state.mapping c.args.first c.args.second v c.number-number.result
+    (c.virt-node.ensures ∙ ap (λ (n : ℕ). c.args.first % n) count) (c.number-number.ensures ∙ ap (λ (n : ℕ). c.args.second % n) own)
+    ∙ found)

@@ -1,7 +1,0 @@
-use Rattle.std.proofs.Common.{◌≡◌, map, take}
-use Rattle.map_board.proofs.seats.homes_of.Given as goal
-
-abbrev pub invariant-loop-place : goal.invariant-loop-place
-invariant-loop-place l = record {
-  homes : l.homes.items ≡ map (λ p. p.0.0) (take l.place-index l.mapping.places);
-}

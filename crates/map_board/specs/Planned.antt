@@ -1,7 +1,0 @@
--- The mapping with its planned changes made.
-use Rattle.virt_topo.specs.declared.mapping.Mapping.{Mapping}
-use Rattle.trunk_sums.specs.Remade.{remade}
-use Rattle.map_board.specs.declared.board.Board.{Board}
-
-abbrev pub planned : Board → Mapping
-planned b = record { places = b.mapping.places; plugs = remade b.mapping.plugs b.changes.items }

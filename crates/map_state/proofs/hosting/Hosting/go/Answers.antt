@@ -1,0 +1,122 @@
+use Rattle.std.proofs.Common.{◌≡◌, ◌<◌, ◌+◌, ◌-◌, ◌∙◌, ℕ, List, length, get_or, Bool, cond, eqb, map, refl, ap, sym, arith, ◌==◌}
+use Rattle.std.specs.List.{remove, count_by}
+use Rattle.std.proofs.Math.ListN.{set}
+use Rattle.std.proofs.lemmas.Bool.{eq-eqb}
+use Rattle.std.proofs.lemmas.List.{length-set, map-set}
+use Rattle.virt_topo.specs.declared.mapping.Mapping.{Mapping}
+use Rattle.lab_model.specs.Shapes.{Place}
+use Rattle.lab_model.specs.Rules.{no_place}
+use Rattle.cost_rule.proofs.PartLaws.{nodes_small}
+use Rattle.map_state.proofs.HostingLaws.{Went, guest_left, used_left, guests_went, used_went}
+use Rattle.map_state.proofs.hosting.Hosting.go.Goals as goal
+
+abbrev others_at : Mapping → ℕ → ℕ → ℕ
+others_at m v n = count_by (λ (x : ℕ). x == n) (remove (map (λ (q : Place). q.0.0) m.places) v)
+
+pub leave-requires-clause-guest : goal.leave-requires-clause-guest
+leave-requires-clause-guest c =
+    let m = c.args.mapping.now in
+    let a = (get_or m.places c.args.virt no_place).0.0 in
+    let virt = c.requires.virt in
+    let all = c.requires.shaped.places in
+    let lt : c.args.virt < length m.places = omega (arith, virt, all) in
+    let node = c.requires.shaped.in_nodes c.args.virt no_place lt in
+    let left = guest_left m.places c.args.virt a lt in
+    let one : ◌≡◌ {A = ℕ} (cond (eqb a a) 1 0) 1 = ap (λ (b : Bool). cond b 1 0) (eq-eqb a a refl) in
+    let guests = c.requires.hosting.guests a node in
+    let at : ◌≡◌ {A = ℕ} (get_or c.args.self.now.guests.items c.node_of-from.result.0 0) (get_or c.args.self.now.guests.items a 0) = ap (λ (k : ℕ). get_or c.args.self.now.guests.items k 0) c.node_of-from.ensures in
+    omega (arith, left, one, guests, at)
+
+pub leave-requires-clause-used : goal.leave-requires-clause-used
+leave-requires-clause-used c = λ alone.
+    let m = c.args.mapping.now in
+    let a = (get_or m.places c.args.virt no_place).0.0 in
+    let virt = c.requires.virt in
+    let all = c.requires.shaped.places in
+    let lt : c.args.virt < length m.places = omega (arith, virt, all) in
+    let node = c.requires.shaped.in_nodes c.args.virt no_place lt in
+    let left = guest_left m.places c.args.virt a lt in
+    let one : ◌≡◌ {A = ℕ} (cond (eqb a a) 1 0) 1 = ap (λ (b : Bool). cond b 1 0) (eq-eqb a a refl) in
+    let guests = c.requires.hosting.guests a node in
+    let at : ◌≡◌ {A = ℕ} (get_or c.args.self.now.guests.items c.node_of-from.result.0 0) (get_or c.args.self.now.guests.items a 0) = ap (λ (k : ℕ). get_or c.args.self.now.guests.items k 0) c.node_of-from.ensures in
+    let used = used_left m.places c.args.virt lt in
+    let nodes = c.requires.hosting.nodes in
+    let none : others_at m c.args.virt a ≡ 0 = omega (arith, left, one, guests, at, alone) in
+    let flag : ◌≡◌ {A = ℕ} (cond (eqb (others_at m c.args.virt a) 0) 1 0) 1 = ap (λ (b : Bool). cond b 1 0) (eq-eqb (others_at m c.args.virt a) 0 none) in
+    omega (arith, used, nodes, flag)
+
+pub join-requires-clause-few_nodes : goal.join-requires-clause-few_nodes
+join-requires-clause-few_nodes c =
+    let few = nodes_small c.args.lab.now c.args.wiring.now c.args.mapping.now c.requires.sound c.requires.shaped in
+    let nodes = c.requires.hosting.nodes in
+    let left = c.leave.ensures.nodes in
+    omega (arith, few, nodes, left)
+
+pub returns-clause-hosts : goal.returns-clause-hosts
+returns-clause-hosts c =
+    let m = c.args.mapping.now in
+    ap (λ (l : List ℕ). set l c.args.virt c.args.place.0.0) (ap (λ y. y.items) (c.join.ensures.hosts ∙ c.leave.ensures.hosts) ∙ c.requires.hosting.hosts)
+    ∙ sym (map-set (λ (p : Place). p.0.0) m.places c.args.virt c.args.place)
+
+pub returns-clause-one_each : goal.returns-clause-one_each
+returns-clause-one_each c =
+    ap length c.join.ensures.guests ∙ length-set c.leave.new.self.guests.items c.args.place.0.0 _ ∙ ap length c.leave.ensures.guests
+    ∙ length-set c.args.self.now.guests.items c.node_of-from.result.0 _ ∙ c.requires.hosting.one_each
+
+pub returns-clause-guests : goal.returns-clause-guests
+returns-clause-guests c = λ n n_lt.
+    let lab = c.args.lab.now in
+    let m = c.args.mapping.now in
+    let v = c.args.virt in
+    let p = c.args.place in
+    let a = (get_or m.places v no_place).0.0 in
+    let x = c.args.self.now in
+    let hosting = c.requires.hosting in
+    let virt = c.requires.virt in
+    let all = c.requires.shaped.places in
+    let lt : v < length m.places = omega (arith, virt, all) in
+    let from = c.node_of-from.ensures in
+    let g = x.guests.items in
+    let h = c.leave.new.self.guests.items in
+    let k = c.join.new.self.guests.items in
+    let went : Went (length lab.nodes) m.places v p g h k x.nodes c.leave.new.self.nodes c.join.new.self.nodes = record {
+      one_each = hosting.one_each;
+      counted = hosting.guests;
+      used = hosting.nodes;
+      from = c.requires.shaped.in_nodes v no_place lt;
+      to = c.requires.node;
+      left = c.leave.ensures.guests ∙ ap (λ (n : ℕ). set g n (get_or g n 0 - 1)) from;
+      left_used = ap (λ (n : ℕ). c.leave.new.self.nodes + cond (eqb (get_or g n 0) 1) 1 0) (sym from) ∙ c.leave.ensures.nodes;
+      joined = c.join.ensures.guests;
+      joined_used = c.join.ensures.nodes;
+    } in
+    guests_went (length lab.nodes) m.places v p g h k x.nodes c.leave.new.self.nodes c.join.new.self.nodes lt went n n_lt
+
+pub returns-clause-nodes : goal.returns-clause-nodes
+returns-clause-nodes c =
+    let lab = c.args.lab.now in
+    let m = c.args.mapping.now in
+    let v = c.args.virt in
+    let p = c.args.place in
+    let a = (get_or m.places v no_place).0.0 in
+    let x = c.args.self.now in
+    let hosting = c.requires.hosting in
+    let virt = c.requires.virt in
+    let all = c.requires.shaped.places in
+    let lt : v < length m.places = omega (arith, virt, all) in
+    let from = c.node_of-from.ensures in
+    let g = x.guests.items in
+    let h = c.leave.new.self.guests.items in
+    let k = c.join.new.self.guests.items in
+    let went : Went (length lab.nodes) m.places v p g h k x.nodes c.leave.new.self.nodes c.join.new.self.nodes = record {
+      one_each = hosting.one_each;
+      counted = hosting.guests;
+      used = hosting.nodes;
+      from = c.requires.shaped.in_nodes v no_place lt;
+      to = c.requires.node;
+      left = c.leave.ensures.guests ∙ ap (λ (n : ℕ). set g n (get_or g n 0 - 1)) from;
+      left_used = ap (λ (n : ℕ). c.leave.new.self.nodes + cond (eqb (get_or g n 0) 1) 1 0) (sym from) ∙ c.leave.ensures.nodes;
+      joined = c.join.ensures.guests;
+      joined_used = c.join.ensures.nodes;
+    } in
+    used_went (length lab.nodes) m.places v p g h k x.nodes c.leave.new.self.nodes c.join.new.self.nodes lt went

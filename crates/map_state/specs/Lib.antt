@@ -1,0 +1,12 @@
+pub mod Nodes
+pub mod Ties
+pub mod Softs
+pub mod Tables
+pub mod Members
+pub mod Hosted
+pub mod Reverted
+pub mod States
+pub mod Planned
+pub mod Foretold
+pub mod Placings
+pub mod Chosen

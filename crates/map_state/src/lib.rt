@@ -1,0 +1,27 @@
+//! A node map that tries change in place.
+//! It keeps by node the number of its virtual nodes, by class and type the number of members, by trunk the use, and the parts of its cost.
+#![tactic(auto)]
+
+mod chosen;
+mod foretold;
+mod full;
+mod give;
+mod hosting;
+mod joints;
+mod members;
+mod placing;
+mod remake;
+mod search;
+mod serving;
+mod softs;
+mod state;
+mod table;
+mod ties;
+
+pub use chosen::Chosen;
+pub use foretold::Foretold;
+pub use hosting::Hosting;
+pub use placing::Placing;
+pub use search::Search;
+pub use state::MapState;
+pub use table::Table;
