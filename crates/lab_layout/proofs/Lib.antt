@@ -1,2 +1,6 @@
+mod Best
+mod Digits
+mod Layouts
 mod Pairs
+mod Ranges
 mod Sums

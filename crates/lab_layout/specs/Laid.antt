@@ -1,5 +1,6 @@
 -- Where things stand in the picture of a lab.
-use Rattle.std.specs.Prelude.{◌≡◌, ◌≤◌, ◌+◌, ◌⊎◌, ℕ, List, length, All, AllPairs, Option, Some, None, is_some, ⊤}
+use Rattle.std.specs.Prelude.{◌≡◌, ◌≤◌, ◌+◌, ◌*◌, ◌⊎◌, ℕ, List, length, map, All, AllPairs, Option, Some, None, is_some, ⊤}
+use Rattle.std.specs.List.{range_with_len}
 use Rattle.lab_view.specs.declared.view.View.{View}
 use Rattle.lab_view.specs.Lines.{has_lone}
 use Rattle.lab_layout.specs.declared.limits.TheConstants.{LEAST_WIDE, LEAST_HIGH, MAX_CELLS}
@@ -55,6 +56,13 @@ HasRoom p = (LEAST_WIDE ≤ p.wide) × (LEAST_HIGH ≤ p.high)
 pub record AreApart (cells : List Place) : Type 0 where
   pub apart : AllPairs IsApart cells
   pub room : All HasRoom cells
+
+-- machines below one another, which is how they stand where they would overlap
+abbrev pub stacked : ℕ → Place
+stacked number = record { x = 40; y = 138 + 49 * number; wide = LEAST_WIDE; high = LEAST_HIGH }
+
+abbrev pub all_stacked : ℕ → List Place
+all_stacked count = map stacked (range_with_len 0 count)
 
 -- A LAID PICTURE; a lab has at most 1,024 machines
 pub record IsLaid (v : View) (g : Geometry) : Type 0 where

@@ -1,6 +1,6 @@
 // Machines that don't overlap.
-ghost use Rattle.std.specs.Prelude.{◌≡◌, ◌≤◌, ◌+◌, ◌⊎◌, ◌↔◌, length, All, AllPairs, IsTrue, IfOk};
-ghost use Rattle.lab_layout.specs.Laid.{IsApart, HasRoom, AreApart};
+ghost use Rattle.std.specs.Prelude.{◌≡◌, ◌≤◌, ◌<◌, ◌+◌, ◌⊎◌, ◌↔◌, length, All, AllPairs, IsTrue, IfOk};
+ghost use Rattle.lab_layout.specs.Laid.{IsApart, HasRoom, AreApart, stacked, all_stacked};
 
 use crate::limits::{LEAST_HIGH, LEAST_WIDE, MAX_CELLS};
 use lab_base::{Items, Memory};
@@ -71,20 +71,29 @@ fn all_are_apart(places: &[Place]) -> bool
     true
 }
 
+/// Where the machine of that number stands in a column of all.
+fn stacked(number: usize) -> Place
+    requires { number < MAX_CELLS }
+    ensures { result ≡ stacked number }
+{
+    Place {
+        x: 40,
+        y: 138 + 49 * number as u32,
+        wide: LEAST_WIDE,
+        high: LEAST_HIGH,
+    }
+}
+
 /// Machines below one another.
 fn column(alloc: Global, count: usize) -> Result<Items<Place>, Memory>
     requires { count ≤ MAX_CELLS }
     ensures len { IfOk result (λ cells. length cells ≡ count) }
+    ensures cells { IfOk result (λ cells. cells ≡ all_stacked count) }
     ensures apart { IfOk result AreApart }
 {
     let mut cells = Items::new(alloc);
     for number in 0..count {
-        cells.push(Place {
-            x: 40,
-            y: 138 + 49 * number as u32,
-            wide: LEAST_WIDE,
-            high: LEAST_HIGH,
-        })?;
+        cells.push(stacked(number))?;
     }
     Ok(cells)
 }
@@ -100,6 +109,8 @@ pub(crate) fn set_apart(alloc: Global, cells: Items<Place>) -> Result<Items<Plac
     ensures len { IfOk result (λ apart. length apart ≡ length cells) }
     ensures apart { IfOk result (λ apart. length cells ≤ MAX_CELLS → AreApart apart) }
     ensures kept { IfOk result (λ apart. AreApart cells → apart ≡ cells) }
+    ensures many { IfOk result (λ apart. MAX_CELLS < length cells → apart ≡ cells) }
+    ensures moved { IfOk result (λ apart. length cells ≤ MAX_CELLS → (AreApart cells → ⊥) → apart ≡ all_stacked (length cells)) }
 {
     if cells.len() > MAX_CELLS || are_apart(cells.as_slice()) {
         return Ok(cells);

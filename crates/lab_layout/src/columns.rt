@@ -1,12 +1,14 @@
 // The columns of switches, from left to right.
 ghost use Rattle.std.specs.Prelude.{◌≡◌, length, replicate, IfOk};
-ghost use Rattle.lab_layout.specs.Measures.{none};
-ghost use Rattle.lab_layout.specs.Columns.{digits, card_width, label_width, lanes, lane};
+ghost use Rattle.lab_layout.specs.Measures.{none, at};
+ghost use Rattle.lab_layout.specs.Columns.{digits, card_width, label_width, lanes, lane, has_both, with_card, with_bend, with_label, bend_width};
+ghost use Rattle.lab_layout.specs.Columns.{bare_columns, card_widths, bend_widths, label_widths, starts_of, card_starts, end_of};
 ghost use Rattle.lab_layout.specs.Rows.{under};
 
 use crate::layout::Plan;
 use crate::px::{Px, at, widen, width};
 use crate::rows::Rows;
+use crate::tree::Forest;
 use lab_base::Memory;
 use lab_view::View;
 use std::alloc::Global;
@@ -23,24 +25,28 @@ pub(crate) const TURN: Px = Px(18);
 /// Between two trunks where they leave a card.
 pub(crate) const PORT: Px = Px(17);
 
-/// By column its cards' width, where it begins, how wide the labels before it are, and how wide the lanes behind it.
+/// By column its cards' width, and where these begin.
 #[derive(Drop)]
 pub(crate) struct Columns {
     pub(crate) cards: Vec<Px>,
     pub(crate) starts: Vec<Px>,
-    labels: Vec<Px>,
-    bends: Vec<Px>,
-    /// Where the last one ends.
-    pub(crate) end: Px,
+    /// The last column.
+    deepest: usize,
 }
 
 impl Columns {
-    /// Where the last column begins.
-    pub(crate) fn last(&self) -> Px {
-        match self.starts.last() {
-            Some(start) => *start,
-            None => MARGIN,
-        }
+    /// Where the cards of the last column begin.
+    pub(crate) fn last(&self) -> Px
+        ensures { result.0 ≡ at self.now.starts.items self.now.deepest }
+    {
+        at(&self.starts, self.deepest)
+    }
+
+    /// Where they end.
+    pub(crate) fn end(&self) -> Px
+        ensures { result.0 ≡ end_of self.now }
+    {
+        self.last() + at(&self.cards, self.deepest)
     }
 }
 
@@ -84,11 +90,11 @@ fn label_width(view: &View, trunk: usize) -> Px
     width(letters, 95).max(width(20, 90)) + 20
 }
 
-/// How many lanes the trunks of so many slots need: the upper half runs up, the lower one down.
+/// How many lanes so many slots have, where half of them may run up and half of them down.
 fn lanes(slots: usize) -> u64
     ensures { result ≡ lanes slots }
 {
-    slots.div_ceil(2) as u64
+    slots as u64 / 2 + 1
 }
 
 /// How wide a lane is behind a card with so many slots.
@@ -110,54 +116,125 @@ pub(crate) fn bare(alloc: Global, count: usize) -> Result<Vec<Px>, Memory>
     Ok(list)
 }
 
-impl Columns {
-    /// Makes the columns wide enough for a switch.
-    fn fit(&mut self, plan: Plan<'_>, switch: usize) {
-        let Some(branch) = plan.forest.branches.get(switch) else {
-            return;
-        };
-        let column = plan.forest.column(switch);
-        let card = card_width(plan.view, plan.rows, switch);
-        widen(&mut self.cards, column, card);
-        if !branch.children.is_empty() {
-            let slots = branch.children.len().saturating_add(1);
-            let bend = TURN * 2 + lane_of(slots) * lanes(slots);
-            widen(&mut self.bends, column, bend);
-            if !plan.rows.under(switch).is_empty() {
-                widen(&mut self.cards, plan.forest.deepest, card);
-            }
-        }
-        if let Some(trunk) = branch.up {
-            widen(&mut self.labels, column, label_width(plan.view, trunk));
-        }
-    }
+/// Whether a switch has both machines and further switches.
+pub(crate) fn has_both(plan: Plan<'_>, switch: usize) -> bool
+    ensures { result ≡ has_both plan.entry.rows.now plan.entry.forest.now switch }
+{
+    !plan.forest.children(switch).is_empty() && !plan.rows.under(switch).is_empty()
+}
 
-    /// Puts the columns side by side.
-    fn put(&mut self) {
-        let mut x = MARGIN;
-        for (column, start) in self.starts.iter_mut().enumerate() {
-            x = x + at(&self.labels, column);
-            *start = x;
-            x = x + at(&self.cards, column);
-            self.end = x;
-            x = x + at(&self.bends, column);
-        }
+/// Makes room for the cards of a switch.
+fn fit_card(cards: &mut [Px], plan: Plan<'_>, switch: usize)
+    ensures len { length cards.new ≡ length cards.old }
+    ensures room { cards.new ≡ with_card plan.entry.view.now plan.entry.rows.now plan.entry.forest.now cards.old switch }
+{
+    let card = card_width(plan.view, plan.rows, switch);
+    widen(cards, plan.forest.column(switch), card);
+    if has_both(plan, switch) {
+        widen(cards, plan.forest.deepest, card);
     }
 }
 
-/// The columns of a lab.
-pub(crate) fn columns_of_lab(alloc: Global, plan: Plan<'_>) -> Result<Columns, Memory> {
-    let count = plan.forest.deepest.saturating_add(1);
-    let mut columns = Columns {
-        cards: bare(alloc, count)?,
-        starts: bare(alloc, count)?,
-        labels: bare(alloc, count)?,
-        bends: bare(alloc, count)?,
-        end: MARGIN,
-    };
-    for switch in 0..plan.view.switches.len() {
-        columns.fit(plan, switch);
+/// How wide the lanes behind a card with so many children are.
+#[tactic(auto, unfolding(crate::specs::Measures::pixels))]
+fn bend_width(children: usize) -> Px
+    ensures { result.0 ≡ bend_width children }
+{
+    TURN * 2 + lane_of(children) * lanes(children)
+}
+
+/// Makes room for the lanes behind a switch.
+fn fit_bend(bends: &mut [Px], forest: &Forest, switch: usize)
+    ensures len { length bends.new ≡ length bends.old }
+    ensures room { bends.new ≡ with_bend forest.now bends.old switch }
+{
+    let children = forest.children(switch).len();
+    if children > 0 {
+        widen(bends, forest.column(switch), bend_width(children));
     }
-    columns.put();
-    Ok(columns)
+}
+
+/// Makes room for the labels of the trunk that leads from a switch towards its root.
+fn fit_label(labels: &mut [Px], plan: Plan<'_>, switch: usize)
+    ensures len { length labels.new ≡ length labels.old }
+    ensures room { labels.new ≡ with_label plan.entry.view.now plan.entry.forest.now labels.old switch }
+{
+    if let Some(trunk) = plan.forest.up(switch) {
+        let label = label_width(plan.view, trunk);
+        widen(labels, plan.forest.column(switch), label);
+    }
+}
+
+/// By column a measure of 0.
+fn bare_columns(alloc: Global, forest: &Forest) -> Result<Vec<Px>, Memory>
+    ensures { IfOk result (λ list. list.items ≡ bare_columns forest.now) }
+{
+    let mut list = bare(alloc, forest.deepest)?;
+    list.push(Px(0))?;
+    Ok(list)
+}
+
+/// By column how wide its cards are.
+fn card_widths(alloc: Global, plan: Plan<'_>) -> Result<Vec<Px>, Memory>
+    ensures { IfOk result (λ list. list.items ≡ card_widths plan.entry.view.now plan.entry.rows.now plan.entry.forest.now) }
+{
+    let mut cards = bare_columns(alloc, plan.forest)?;
+    for switch in 0..plan.view.switches.len() {
+        fit_card(&mut cards, plan, switch);
+    }
+    Ok(cards)
+}
+
+/// By column how wide the lanes behind it are.
+fn bend_widths(alloc: Global, plan: Plan<'_>) -> Result<Vec<Px>, Memory>
+    ensures { IfOk result (λ list. list.items ≡ bend_widths plan.entry.view.now plan.entry.forest.now) }
+{
+    let mut bends = bare_columns(alloc, plan.forest)?;
+    for switch in 0..plan.view.switches.len() {
+        fit_bend(&mut bends, plan.forest, switch);
+    }
+    Ok(bends)
+}
+
+/// By column how wide the labels before it are.
+fn label_widths(alloc: Global, plan: Plan<'_>) -> Result<Vec<Px>, Memory>
+    ensures { IfOk result (λ list. list.items ≡ label_widths plan.entry.view.now plan.entry.forest.now) }
+{
+    let mut labels = bare_columns(alloc, plan.forest)?;
+    for switch in 0..plan.view.switches.len() {
+        fit_label(&mut labels, plan, switch);
+    }
+    Ok(labels)
+}
+
+/// Where the cards of columns begin that stand side by side.
+#[tactic(auto, using(crate::proofs::Ranges::past_more))]
+fn starts_of(alloc: Global, labels: &[Px], cards: &[Px], bends: &[Px]) -> Result<Vec<Px>, Memory>
+    ensures { IfOk result (λ list. list.items ≡ starts_of labels.now cards.now bends.now) }
+{
+    let mut starts = Vec::new(alloc);
+    let mut x = MARGIN;
+    for column in 0..cards.len() {
+        let start = x + at(labels, column);
+        starts.push(start)?;
+        x = start + at(cards, column) + at(bends, column);
+    }
+    Ok(starts)
+}
+
+/// The columns of a lab.
+pub(crate) fn columns_of_lab(alloc: Global, plan: Plan<'_>) -> Result<Columns, Memory>
+    ensures cards { IfOk result (λ c. c.cards.items ≡ card_widths plan.entry.view.now plan.entry.rows.now plan.entry.forest.now) }
+    ensures starts { IfOk result (λ c. c.starts.items ≡ card_starts plan.entry.view.now plan.entry.rows.now plan.entry.forest.now) }
+    ensures deepest { IfOk result (λ c. c.deepest ≡ plan.entry.forest.now.deepest) }
+{
+    let cards = card_widths(alloc, plan)?;
+    let labels = label_widths(alloc, plan)?;
+    let bends = bend_widths(alloc, plan)?;
+    let starts = starts_of(alloc, &labels, &cards, &bends)?;
+    Ok(Columns {
+        cards,
+        starts,
+        deepest: plan.forest.deepest,
+    })
 }

@@ -1,174 +1,65 @@
 // Where everything stands in the picture of a lab.
-ghost use Rattle.std.specs.Prelude.{◌≡◌, ◌≤◌, ◌/◌, length, map, replicate, is_some, IfOk, IfSome};
+ghost use Rattle.std.specs.Prelude.{◌≡◌, ◌≤◌, ◌+◌, ◌-◌, ◌/◌, nat_lt, length, map, replicate, is_some, IfOk, IfSome, if◌then◌else◌};
 ghost use Rattle.lab_view.specs.Lines.{has_lone};
-ghost use Rattle.lab_layout.specs.Laid.{IsLaid, AreApart};
-ghost use Rattle.lab_layout.specs.Heights.{cell_width};
+ghost use Rattle.lab_layout.specs.Laid.{HasPlaces, IsLaid, AreApart};
+ghost use Rattle.lab_layout.specs.Layouts.{off_of, IsBest};
+ghost use Rattle.lab_layout.specs.Measures.{pixels, small, IsEach};
+ghost use Rattle.lab_layout.specs.Heights.{head_scale, head_high};
+ghost use Rattle.lab_layout.specs.Lists.{column_wide, list_rows, mark_of, entry_at};
+ghost use Rattle.lab_layout.specs.Drawn.{across, lists_top, point, strip_below, heading, reach_of, IsPlaced, IsDrawn};
+ghost use Rattle.lab_layout.specs.Trunks.{echo_of, trunks_of};
 ghost use Rattle.lab_layout.specs.Cells.{no_place, card_of, cell_of, with_band, cells_of, lone_at};
 
 use crate::apart::set_apart;
-use crate::columns::{BESIDE, MARGIN};
-use crate::layout::{
-    CELL_HIGH, GAP, Layout, Plan, Slot, Spot, cell_width, head_high, head_scale, layout_of,
-};
+use crate::columns::MARGIN;
+use crate::layout::{CELL_HIGH, GAP, Layout, Plan, head_high, head_scale, layout_of};
 use crate::limits::MAX_CELLS;
 use crate::lists::{entries_of, lists_high, marks_of, second};
+use crate::machines::cell_width;
 use crate::px::{Place, Px};
 use crate::rows::Rows;
 use crate::tree::forest_of;
-use crate::ways::{line_of, small, way_of, wide_of};
+use crate::trunks::{card_of, echo_of, trunks_of};
+use crate::ways::small;
 use crate::within::Reach;
 use lab_base::{Items, Memory};
-use lab_picture::{Card, Echo, Geometry, Label, Line, Point, Way};
+use lab_picture::{Card, Echo, Geometry, Point};
 use lab_view::View;
 use std::alloc::Global;
 
 /// How far a picture is from a sheet of paper on its side, whose edges are as 7 and 5, in thousandths.
-fn off(layout: &Layout, view: &View) -> Px {
+#[tactic(auto, unfolding(crate::specs::Layouts::off))]
+fn off(layout: &Layout, view: &View) -> Px
+    ensures { result.0 ≡ off_of view.now layout.now }
+{
     let wide = layout.wide * 5;
     let high = (layout.high + lists_high(view, layout.wide)) * 7;
     wide.apart(high) * 1_000 / wide.max(high).0
 }
 
+/// The layout of two whose picture is nearer to that sheet, the first one where both are as near.
+fn better(view: &View, one: Layout, other: Layout) -> Layout
+    ensures { result ≡ (if nat_lt (off_of view.now other) (off_of view.now one) then other else one) }
+{
+    if off(&other, view) < off(&one, view) {
+        other
+    } else {
+        one
+    }
+}
+
 /// The layout whose picture is nearest to a sheet of paper on its side.
 fn best_layout(alloc: Global, plan: Plan<'_>) -> Result<Layout, Memory>
     ensures spots { IfOk result (λ layout. length layout.spots.items ≡ length plan.entry.view.now.switches) }
-    ensures cell { IfOk result (λ layout. layout.cell.0 ≡ cell_width plan.entry.view.now) }
+    ensures best { IfOk result (IsBest plan.entry.view.now plan.entry.rows.now plan.entry.forest.now 33) }
 {
     let cell = cell_width(plan.view);
     let mut best = layout_of(alloc, plan, cell, 4)?;
-    let mut least = off(&best, plan.view);
     for most in 5..33 {
         let other = layout_of(alloc, plan, cell, most)?;
-        let its = off(&other, plan.view);
-        if its < least {
-            best = other;
-            least = its;
-        }
+        best = better(plan.view, best, other);
     }
     Ok(best)
-}
-
-/// The card in a box, with its words.
-#[tactic(auto, unfolding(crate::specs::Cells::card_of))]
-fn card_of(place: Place) -> Card
-    ensures { result ≡ card_of place }
-{
-    Card {
-        place: small(place),
-        words: Point {
-            x: (place.x + 11).small(),
-            y: (place.y + place.high / 2 - 3).small(),
-        },
-    }
-}
-
-/// The second card of a switch that has both machines and further switches.
-fn echo_of(layout: &Layout, spot: &Spot) -> Option<Echo> {
-    for (number, slot) in spot.slots.as_slice().iter().enumerate() {
-        if *slot == Slot::Own {
-            let middle = spot.band.y + spot.band.high / 2;
-            let place = Place {
-                x: layout.last,
-                y: middle - 21,
-                wide: spot.band.x - BESIDE - layout.last,
-                high: Px(42),
-            };
-            return Some(Echo {
-                card: card_of(place),
-                way: way_of(layout, spot, number, *slot),
-            });
-        }
-    }
-    None
-}
-
-/// By trunk its line and its label.
-#[derive(Drop)]
-struct Trunks {
-    lines: Vec<Line>,
-    labels: Vec<Label>,
-}
-
-const NO_WAY: Way = Way {
-    from: Point { x: 0, y: 0 },
-    bend: None,
-    end: 0,
-};
-
-fn bare_trunks(alloc: Global, count: usize) -> Result<Trunks, Memory>
-    ensures lines { IfOk result (λ trunks. length trunks.lines.items ≡ count) }
-    ensures labels { IfOk result (λ trunks. length trunks.labels.items ≡ count) }
-{
-    let mut lines = Vec::new(alloc);
-    let mut labels = Vec::new(alloc);
-    for _number in 0..count {
-        lines.push(Line {
-            way: NO_WAY,
-            wide: 0,
-        })?;
-        labels.push(Label {
-            x: 0,
-            name: 0,
-            used: 0,
-        })?;
-    }
-    Ok(Trunks { lines, labels })
-}
-
-/// A trunk's label, before the card at its end.
-fn label_of(kbps: u64, card: Place) -> Label {
-    let half = wide_of(kbps) / 2;
-    let y = card.y + card.high / 2;
-    Label {
-        x: (card.x - 8).small(),
-        name: (y - half - 4).small(),
-        used: (y + half + 11).small(),
-    }
-}
-
-impl Trunks {
-    /// Notes the line and the label of the trunk that leads to a child.
-    fn note(&mut self, plan: Plan<'_>, layout: &Layout, child: usize, way: Way)
-        ensures lines { length self.new.lines.items ≡ length self.old.lines.items }
-        ensures labels { length self.new.labels.items ≡ length self.old.labels.items }
-    {
-        let Some(up) = plan.forest.up(child) else {
-            return;
-        };
-        let Some(trunk) = plan.view.trunks.as_slice().get(up) else {
-            return;
-        };
-        if let Some(line) = self.lines.get_mut(up) {
-            *line = line_of(trunk, way);
-        }
-        if let Some(label) = self.labels.get_mut(up) {
-            *label = label_of(trunk.kbps, layout.card(child));
-        }
-    }
-
-    /// Notes the trunks that lead from a switch to its children.
-    fn note_all(&mut self, plan: Plan<'_>, layout: &Layout, spot: &Spot)
-        ensures lines { length self.new.lines.items ≡ length self.old.lines.items }
-        ensures labels { length self.new.labels.items ≡ length self.old.labels.items }
-    {
-        for (number, slot) in spot.slots.as_slice().iter().enumerate() {
-            if let Slot::Child(child) = *slot {
-                let way = way_of(layout, spot, number, *slot);
-                self.note(plan, layout, child, way);
-            }
-        }
-    }
-}
-
-fn trunks_of(alloc: Global, plan: Plan<'_>, layout: &Layout) -> Result<Trunks, Memory>
-    ensures lines { IfOk result (λ trunks. length trunks.lines.items ≡ length plan.entry.view.now.trunks) }
-    ensures labels { IfOk result (λ trunks. length trunks.labels.items ≡ length plan.entry.view.now.trunks) }
-{
-    let mut trunks = bare_trunks(alloc, plan.view.trunks.len())?;
-    for spot in layout.spots.iter() {
-        trunks.note_all(plan, layout, spot);
-    }
-    Ok(trunks)
 }
 
 /// The row of the machine with so many before it; the first one where rows have none.
@@ -267,6 +158,8 @@ fn cells_apart(
 ) -> Result<Items<lab_picture::Place>, Memory>
     ensures len { IfOk result (λ cells. length cells ≡ length plan.entry.view.now.machines) }
     ensures apart { IfOk result (λ cells. length plan.entry.view.now.machines ≤ MAX_CELLS → AreApart cells) }
+    ensures kept { IfOk result (λ cells. AreApart (cells_of plan.entry.rows.now layout.now (length plan.entry.view.now.machines))
+        → cells ≡ cells_of plan.entry.rows.now layout.now (length plan.entry.view.now.machines)) }
 {
     let cells = cells_of(alloc, plan, layout)?;
     let apart = set_apart(alloc, cells)?;
@@ -285,7 +178,8 @@ fn cards_of(alloc: Global, layout: &Layout) -> Result<Items<Card>, Memory>
 }
 
 fn echoes_of(alloc: Global, layout: &Layout) -> Result<Items<Option<Echo>>, Memory>
-    ensures { IfOk result (λ echoes. length echoes ≡ length layout.now.spots.items) }
+    ensures len { IfOk result (λ echoes. length echoes ≡ length layout.now.spots.items) }
+    ensures echoes { IfOk result (λ echoes. echoes ≡ map (echo_of layout.now.spots.items layout.now.last.0) layout.now.spots.items) }
 {
     let mut echoes = Items::new(alloc);
     for spot in layout.spots.iter() {
@@ -309,15 +203,34 @@ fn lone_of(plan: Plan<'_>, layout: &Layout) -> Option<Point>
 }
 
 /// A point at measures from the left and from above.
-fn point(x: Px, y: Px) -> Point {
+fn point(x: Px, y: Px) -> Point
+    ensures { result ≡ point x.0 y.0 }
+{
     Point {
         x: x.small(),
         y: y.small(),
     }
 }
 
+/// How wide the strip of VLAN ids is.
+#[tactic(auto, unfolding(crate::specs::Measures::pixels))]
+fn across_of(layout: &Layout) -> Px
+    ensures { result.0 ≡ across layout.now }
+{
+    layout.wide - MARGIN * 2
+}
+
+/// Where the lists below a layout begin.
+fn lists_top(layout: &Layout) -> Px
+    ensures { result.0 ≡ lists_top layout.now }
+{
+    layout.high + 10
+}
+
 /// The strip of VLAN ids below a layout, as wide as that.
-fn strip_below(layout: &Layout, across: Px) -> lab_picture::Place {
+fn strip_below(layout: &Layout, across: Px) -> lab_picture::Place
+    ensures { result ≡ strip_below layout.now across.0 }
+{
     small(Place {
         x: MARGIN,
         y: layout.high + 40,
@@ -327,55 +240,108 @@ fn strip_below(layout: &Layout, across: Px) -> lab_picture::Place {
 }
 
 /// How far a layout reaches with the lists below it.
-fn reach_of(layout: &Layout, view: &View) -> Reach {
+fn reach_of(layout: &Layout, view: &View) -> Reach
+    ensures { result ≡ reach_of view.now layout.now }
+{
     Reach {
         wide: layout.wide.0,
         high: (layout.high + lists_high(view, layout.wide)).0,
     }
 }
 
-/// The picture of a layout.
-fn drawn(alloc: Global, plan: Plan<'_>, layout: &Layout) -> Result<Geometry, Memory>
+/// How large the title and the key are.
+fn scale_of(layout: &Layout) -> u32
+    ensures { result ≡ small (head_scale layout.now.wide.0) }
+{
+    Px(head_scale(layout.wide)).small()
+}
+
+/// Where the title and the key end.
+fn head_of(layout: &Layout) -> u32
+    ensures { result ≡ small (head_high layout.now.wide.0 - 12) }
+{
+    (head_high(layout.wide) - 12).small()
+}
+
+/// Where all that stands above the lists ends.
+fn foot_of(layout: &Layout) -> u32
+    ensures { result ≡ small (pixels (layout.now.high.0 + 2)) }
+{
+    (layout.high + 2).small()
+}
+
+/// Where the heading of a list stands, so far below the begin of the lists.
+fn heading(layout: &Layout, below: u64) -> Point
+    ensures { result ≡ heading layout.now below }
+{
+    point(MARGIN, lists_top(layout) + below)
+}
+
+/// By VLAN id where it begins on the strip below a layout.
+fn marks_below(alloc: Global, view: &View, layout: &Layout) -> Result<Items<u32>, Memory>
+    ensures len { IfOk result (λ marks. length marks ≡ length view.now.owners + 1) }
+    ensures marks { IfOk result (IsEach (λ number. mark_of number (length view.now.owners) (across layout.now))) }
+{
+    marks_of(alloc, view.owners.len(), across_of(layout))
+}
+
+/// By experiment its entry below a layout.
+fn entries_below(alloc: Global, view: &View, layout: &Layout) -> Result<Items<Point>, Memory>
+    ensures len { IfOk result (λ entries. length entries ≡ length view.now.experiments) }
+    ensures entries { IfOk result (IsEach (λ number. entry_at number (list_rows view.now layout.now.wide.0) (column_wide view.now) (lists_top layout.now))) }
+{
+    entries_of(alloc, view, layout.wide, lists_top(layout))
+}
+
+/// The picture of a layout, as large as that and the lists below it.
+fn placed(alloc: Global, plan: Plan<'_>, layout: &Layout) -> Result<Geometry, Memory>
     requires { length layout.now.spots.items ≡ length plan.view.now.switches }
-    ensures { IfOk result (IsLaid plan.entry.view.now) }
+    ensures places { IfOk result (HasPlaces plan.entry.view.now) }
+    ensures apart { IfOk result (λ g. length plan.entry.view.now.machines ≤ MAX_CELLS → AreApart g.cells) }
+    ensures placed { IfOk result (IsPlaced plan.entry.view.now plan.entry.rows.now plan.entry.forest.now layout.now) }
 {
     let view = plan.view;
-    let wide = layout.wide;
-    let across = wide - MARGIN * 2;
-    let top = layout.high + 10;
     let trunks = trunks_of(alloc, plan, layout)?;
-    let strip = strip_below(layout, across);
-    let cells = cells_apart(alloc, plan, layout)?;
-    let cards = cards_of(alloc, layout)?;
-    let echoes = echoes_of(alloc, layout)?;
-    let entries = entries_of(alloc, view, wide, top)?;
-    let reach = reach_of(layout, view).over_picture(
-        strip,
-        cells.as_slice(),
-        cards.as_slice(),
-        echoes.as_slice(),
-        entries.as_slice(),
-    );
+    let reach = reach_of(layout, view);
     Ok(Geometry {
         wide: reach.wide,
         high: reach.high,
-        across: across.small(),
-        scale: Px(head_scale(wide)).small(),
-        head: (head_high(wide) - 12).small(),
-        foot: (layout.high + 2).small(),
-        cards,
-        echoes,
+        across: across_of(layout).small(),
+        scale: scale_of(layout),
+        head: head_of(layout),
+        foot: foot_of(layout),
+        cards: cards_of(alloc, layout)?,
+        echoes: echoes_of(alloc, layout)?,
         lines: Items::from_vec(trunks.lines),
         labels: Items::from_vec(trunks.labels),
-        cells,
+        cells: cells_apart(alloc, plan, layout)?,
         lone: lone_of(plan, layout),
-        marks: marks_of(alloc, view.owners.len(), across)?,
-        strip,
-        ids: point(MARGIN, top + 20),
-        list: point(MARGIN, top + 80),
-        entries,
+        marks: marks_below(alloc, view, layout)?,
+        strip: strip_below(layout, across_of(layout)),
+        ids: heading(layout, 20),
+        list: heading(layout, 80),
+        entries: entries_below(alloc, view, layout)?,
         second: second(view).small(),
     })
+}
+
+/// The picture of a layout.
+fn drawn(alloc: Global, plan: Plan<'_>, layout: &Layout) -> Result<Geometry, Memory>
+    requires { length layout.now.spots.items ≡ length plan.view.now.switches }
+    ensures laid { IfOk result (IsLaid plan.entry.view.now) }
+    ensures drawn { IfOk result (IsDrawn plan.entry.view.now plan.entry.rows.now plan.entry.forest.now layout.now) }
+{
+    let mut geometry = placed(alloc, plan, layout)?;
+    let reach = reach_of(layout, plan.view).over_picture(
+        geometry.strip,
+        geometry.cells.as_slice(),
+        geometry.cards.as_slice(),
+        geometry.echoes.as_slice(),
+        geometry.entries.as_slice(),
+    );
+    geometry.wide = reach.wide;
+    geometry.high = reach.high;
+    Ok(geometry)
 }
 
 /// Where everything stands in the picture of a lab.

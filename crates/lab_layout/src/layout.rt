@@ -1,13 +1,17 @@
 // Where everything stands.
-ghost use Rattle.std.specs.Prelude.{◌≡◌, ◌<◌, nat_lt, length, position, slice_get, slice_set, IfOk, OnOk, Some};
+ghost use Rattle.std.specs.Prelude.{◌≡◌, ◌<◌, ◌++◌, nat_lt, length, position, slice_get, slice_set, IfOk, OnOk, Some};
 ghost use Rattle.lab_layout.specs.declared.layout.Spot.{Spot as AnySpot};
 ghost use Rattle.lab_view.specs.Lines.{has_lone};
-ghost use Rattle.lab_layout.specs.Heights.{head_scale, head_high, cell_width, machine_wide, held_wide, machines_wide, columns_for, rows_high};
+ghost use Rattle.lab_layout.specs.Heights.{head_scale, head_high, columns_for, rows_high};
 ghost use Rattle.lab_layout.specs.Heights.{card_in, block_in, slot_high, heights, own_high, block_of, with_block, measured};
+ghost use Rattle.lab_layout.specs.Columns.{end_of};
+ghost use Rattle.lab_layout.specs.Layouts.{slots_in, slots_of, row_wide, card_with, band_with, spot_with, spots_with, widest, wide_with};
+ghost use Rattle.lab_layout.specs.Layouts.{lone_end, IsBegun, IsLayout};
 ghost use Rattle.lab_layout.specs.Tops.{is_own, first_top, own_top, put_spot, with_put, with_top, hung, rooted, all_put, IsAllPut};
 
-use crate::columns::{BESIDE, Columns, MARGIN, PORT, bare, columns_of_lab};
-use crate::limits::{LEAST_HIGH, LEAST_WIDE};
+use crate::columns::{BESIDE, Columns, MARGIN, PORT, bare, columns_of_lab, has_both};
+use crate::limits::LEAST_HIGH;
+use crate::machines::{columns_for, rows_high};
 use crate::px::{Place, Px, at, nowhere, set_at, width};
 use crate::rows::Rows;
 use crate::tree::Forest;
@@ -88,79 +92,29 @@ pub(crate) struct Plan<'a> {
     pub(crate) ghost lone: { nat_lt 0 (length rows.now.lone.items) ≡ has_lone view.now },
 }
 
-/// The width of a machine by its name.
-fn machine_wide(letters: usize) -> Px
-    ensures { result.0 ≡ machine_wide letters }
+/// Children as slots, in order.
+fn push_children(slots: &mut Items<Slot>, children: &[usize]) -> Result<(), Memory>
+    ensures { OnOk result (slots.new ≡ slots.old ++ slots_in children.now) }
 {
-    width(letters, 105) + 22
-}
-
-/// The width of a machine by the name of an experiment, of which it shows up to 12 letters.
-#[tactic(auto, unfolding(crate::specs::Measures::pixels))]
-fn held_wide(letters: usize) -> Px
-    ensures { result.0 ≡ held_wide letters }
-{
-    width(letters.min(12), 90) + width(4, 90) + 20
-}
-
-/// The width of a machine by the names of machines, of which it has room for at least 9 letters.
-fn machines_wide(view: &View) -> Px
-    ensures { result.0 ≡ machines_wide view.now }
-{
-    let mut most = Px(u64::from(LEAST_WIDE));
-    for machine in view.machines.as_slice() {
-        most = most.max(machine_wide(machine.name.bytes().len()));
+    for child in children {
+        slots.push(Slot::Child(*child))?;
     }
-    most
-}
-
-/// The width of a machine: of the names of machines, and of those of experiments.
-#[tactic(auto, unfolding(crate::specs::Heights::cell_width))]
-pub(crate) fn cell_width(view: &View) -> Px
-    ensures { result.0 ≡ cell_width view.now }
-{
-    let mut most = machines_wide(view);
-    for exp in view.experiments.as_slice() {
-        most = most.max(held_wide(exp.name.bytes().len()));
-    }
-    most
-}
-
-/// How many machines a row has where a switch has so many: the rows are equally long.
-#[tactic(auto, unfolding(crate::specs::Heights::columns_for))]
-fn columns_for(count: usize, most: usize) -> usize
-    ensures { result ≡ columns_for count most }
-{
-    if count == 0 || most == 0 {
-        return 0;
-    }
-    count.div_ceil(count.div_ceil(most))
-}
-
-#[tactic(auto, unfolding(crate::specs::Heights::rows_high, crate::specs::Measures::pixels))]
-fn rows_high(count: usize, columns: usize) -> Px
-    ensures { result.0 ≡ rows_high count columns }
-{
-    if columns == 0 {
-        return Px(0);
-    }
-    let rows = count.div_ceil(columns) as u64;
-    CELL_HIGH * rows + GAP * rows - GAP
+    Ok(())
 }
 
 /// Children in order, and the switch's own machines in their midst.
-fn slots_of(alloc: Global, plan: Plan<'_>, switch: usize) -> Result<Items<Slot>, Memory> {
+fn slots_of(alloc: Global, plan: Plan<'_>, switch: usize) -> Result<Items<Slot>, Memory>
+    ensures { IfOk result (λ slots. slots ≡ slots_of plan.entry.rows.now plan.entry.forest.now switch) }
+{
+    let children = plan.forest.children(switch);
     let mut slots = Items::new(alloc);
-    let Some(branch) = plan.forest.branches.get(switch) else {
-        return Ok(slots);
-    };
-    let own = !branch.children.is_empty() && !plan.rows.under(switch).is_empty();
-    let middle = branch.children.len() / 2;
-    for (number, child) in branch.children.iter().enumerate() {
-        if own && number == middle {
-            slots.push(Slot::Own)?;
-        }
-        slots.push(Slot::Child(*child))?;
+    if has_both(plan, switch) {
+        let middle = children.len() / 2;
+        push_children(&mut slots, &children[..middle])?;
+        slots.push(Slot::Own)?;
+        push_children(&mut slots, &children[middle..])?;
+    } else {
+        push_children(&mut slots, children)?;
     }
     Ok(slots)
 }
@@ -176,6 +130,38 @@ fn own_high(spot: &Spot) -> Px
     }
 }
 
+/// How wide so many machines beside one another are.
+fn row_wide(cell: Px, columns: usize) -> Px
+    ensures { result.0 ≡ row_wide cell.0 columns }
+{
+    (cell + GAP) * columns as u64
+}
+
+/// A card with so many slots, whose top isn't known yet.
+#[tactic(auto, unfolding(crate::specs::Measures::pixels))]
+fn card_with(x: Px, wide: Px, slots: usize) -> Place
+    ensures { result ≡ card_with x wide slots }
+{
+    Place {
+        x,
+        y: Px(0),
+        wide,
+        high: CARD.max(PORT * slots as u64 + 10),
+    }
+}
+
+/// A band of so many machines behind the last column, whose top isn't known yet.
+fn band_with(end: Px, cell: Px, count: usize, columns: usize) -> Place
+    ensures { result ≡ band_with end.0 cell.0 count columns }
+{
+    Place {
+        x: end + BESIDE,
+        y: Px(0),
+        wide: row_wide(cell, columns),
+        high: rows_high(count, columns),
+    }
+}
+
 /// A switch's spot, whose heights alone are known.
 fn spot_of(
     alloc: Global,
@@ -184,34 +170,68 @@ fn spot_of(
     switch: usize,
     cell: Px,
     most: usize,
-) -> Result<Spot, Memory> {
+) -> Result<Spot, Memory>
+    ensures { IfOk result (λ p. p ≡ spot_with columns.now.starts.items columns.now.cards.items (end_of columns.now)
+        plan.entry.rows.now plan.entry.forest.now cell.0 most switch) }
+{
     let column = plan.forest.column(switch);
     let count = plan.rows.under(switch).len();
     let own = columns_for(count, most);
     let slots = slots_of(alloc, plan, switch)?;
-    let card = Place {
-        x: at(&columns.starts, column),
-        y: Px(0),
-        wide: at(&columns.cards, column),
-        high: CARD.max(PORT * slots.len() as u64 + 10),
-    };
-    let band = Place {
-        x: columns.end + BESIDE,
-        y: Px(0),
-        wide: (cell + GAP) * own as u64,
-        high: rows_high(count, own),
-    };
+    let start = at(&columns.starts, column);
+    let wide = at(&columns.cards, column);
     Ok(Spot {
-        card,
-        band,
+        card: card_with(start, wide, slots.len()),
+        band: band_with(columns.end(), cell, count, own),
         columns: own,
         slots,
         block: Px(0),
     })
 }
 
+/// All switches' spots, whose heights alone are known.
+fn spots_of(
+    alloc: Global,
+    plan: Plan<'_>,
+    columns: &Columns,
+    cell: Px,
+    most: usize,
+) -> Result<Vec<Spot>, Memory>
+    ensures { IfOk result (λ list. list.items ≡ spots_with columns.now.starts.items columns.now.cards.items (end_of columns.now)
+        plan.entry.rows.now plan.entry.forest.now cell.0 most (length plan.entry.view.now.switches)) }
+{
+    let mut spots = Vec::new(alloc);
+    for switch in 0..plan.view.switches.len() {
+        let spot = spot_of(alloc, plan, columns, switch, cell, most)?;
+        spots.push(spot)?;
+    }
+    Ok(spots)
+}
+
+/// How many machines the longest row has, at least so many.
+fn widest(least: usize, spots: &[Spot]) -> usize
+    ensures { result ≡ widest least spots.now }
+{
+    let mut most = least;
+    for spot in spots {
+        most = most.max(spot.columns);
+    }
+    most
+}
+
+/// Where so many machines without an interface end that stand below all that hangs on switches, if there are any.
+#[tactic(auto, unfolding(crate::specs::Measures::pixels))]
+fn lone_end(count: usize, columns: usize, top: Px) -> Px
+    ensures { result.0 ≡ lone_end count columns top.0 }
+{
+    if count == 0 {
+        return top;
+    }
+    top + 4 + rows_high(count, columns) + BETWEEN
+}
+
 /// The number of the slot of a switch's own machines.
-fn own_slot(slots: &[Slot]) -> Option<usize>
+pub(crate) fn own_slot(slots: &[Slot]) -> Option<usize>
     ensures { result ≡ position is_own slots.now }
 {
     slots.iter().position(|slot| is_own(*slot))
@@ -409,23 +429,34 @@ impl Layout {
         self.put_each(&forest.order, &mut tops);
         Ok(end)
     }
+}
 
-    /// Puts so many machines without an interface below all that hangs on switches, if there are any. The answer is where they end.
-    fn put_lone(&mut self, lone: usize, x: Px, top: Px) -> Px
-        ensures rest { self.new ≡ record self.old { lone = self.new.lone } }
-    {
-        if lone == 0 {
-            return top;
-        }
-        let high = rows_high(lone, self.lone_columns);
-        self.lone = Place {
-            x,
-            y: top + 4,
-            wide: (self.cell + GAP) * self.lone_columns as u64,
-            high,
-        };
-        top + 4 + high + BETWEEN
-    }
+/// The width of a layout from the end of its last column and its longest row.
+fn wide_of(end: Px, cell: Px, columns: usize) -> Px
+    ensures { result.0 ≡ wide_with end.0 cell.0 columns }
+{
+    (end + BESIDE + row_wide(cell, columns) + MARGIN).max(LEAST)
+}
+
+/// The layout with at most so many machines in a row, whose tops aren't known yet.
+#[tactic(auto, using(crate::proofs::Layouts::firsts), unfolding(crate::specs::Layouts::wide_at))]
+fn begun(alloc: Global, plan: Plan<'_>, cell: Px, most: usize) -> Result<Layout, Memory>
+    ensures { IfOk result (IsBegun plan.entry.view.now plan.entry.rows.now plan.entry.forest.now cell.0 most) }
+{
+    let columns = columns_of_lab(alloc, plan)?;
+    let lone = plan.rows.lone.len();
+    let lone_columns = columns_for(lone, most);
+    let spots = spots_of(alloc, plan, &columns, cell, most)?;
+    let wide = wide_of(columns.end(), cell, widest(lone_columns, &spots));
+    Ok(Layout {
+        spots,
+        cell,
+        last: columns.last(),
+        wide,
+        high: Px(0),
+        lone: band_with(columns.end(), cell, lone, lone_columns),
+        lone_columns,
+    })
 }
 
 /// The layout with at most so many machines in a row.
@@ -436,32 +467,13 @@ pub(crate) fn layout_of(
     most: usize,
 ) -> Result<Layout, Memory>
     ensures spots { IfOk result (λ layout. length layout.spots.items ≡ length plan.entry.view.now.switches) }
-    ensures cell { IfOk result (λ layout. layout.cell ≡ cell) }
-    ensures lone { IfOk result (λ layout. layout.lone_columns ≡ columns_for (length plan.entry.rows.now.lone.items) most) }
+    ensures layout { IfOk result (IsLayout plan.entry.view.now plan.entry.rows.now plan.entry.forest.now cell.0 most) }
 {
-    let columns = columns_of_lab(alloc, plan)?;
-    let lone = plan.rows.lone.len();
-    let lone_columns = columns_for(lone, most);
-    let mut widest = lone_columns;
-    let mut spots = Vec::new(alloc);
-    for switch in 0..plan.view.switches.len() {
-        let spot = spot_of(alloc, plan, &columns, switch, cell, most)?;
-        widest = widest.max(spot.columns);
-        spots.push(spot)?;
-    }
-    let x = columns.end + BESIDE;
-    let wide = (x + (cell + GAP) * widest as u64 + MARGIN).max(LEAST);
-    let mut layout = Layout {
-        spots,
-        cell,
-        last: columns.last(),
-        wide,
-        high: Px(0),
-        lone: nowhere(),
-        lone_columns,
-    };
+    let mut layout = begun(alloc, plan, cell, most)?;
     layout.measure(&plan.forest.order);
-    let below = layout.put_all(alloc, plan.forest, head_high(wide))?;
-    layout.high = layout.put_lone(lone, x, below);
+    let top = head_high(layout.wide);
+    let below = layout.put_all(alloc, plan.forest, top)?;
+    layout.lone.y = below + 4;
+    layout.high = lone_end(plan.rows.lone.len(), layout.lone_columns, below);
     Ok(layout)
 }

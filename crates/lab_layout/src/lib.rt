@@ -8,9 +8,11 @@ mod drawn;
 mod layout;
 mod limits;
 mod lists;
+mod machines;
 mod px;
 mod rows;
 mod tree;
+mod trunks;
 mod ways;
 mod within;
 

@@ -2,6 +2,7 @@
 ghost use Rattle.std.specs.Prelude.{◌≡◌, ◌≤◌, ◌+◌, max, All};
 ghost use Rattle.std.specs.List.{fold};
 ghost use Rattle.lab_layout.specs.Laid.{IsIn, IsPointIn, IsCardIn, IsEchoIn};
+ghost use Rattle.lab_layout.specs.Drawn.{over_picture};
 ghost use Rattle.lab_layout.specs.Reaches.{over, over_point, over_card, over_echo};
 
 use lab_picture::{Card, Echo, Place, Point};
@@ -124,6 +125,7 @@ impl Reach {
         echoes: &[Option<Echo>],
         entries: &[Point],
     ) -> Reach
+        ensures reach { result ≡ over_picture self strip cells.now cards.now echoes.now entries.now }
         ensures strip { IsIn result.wide result.high strip }
         ensures cells { All (IsIn result.wide result.high) cells.now }
         ensures cards { All (IsCardIn result.wide result.high) cards.now }
