@@ -1,5 +1,6 @@
 -- The switches as trees.
-use Rattle.std.specs.Prelude.{ℕ, ◌+◌, ◌-◌, ◌^◌, min, Bool, true, not, ◌&&◌, ◌||◌, ◌==◌, nat_le, nat_lt, List, [], ◌∷◌, ◌++◌, replicate, map, length, get_or, slice_get, slice_set, Option, Some, None}
+use Rattle.std.specs.Prelude.{ℕ, ◌+◌, ◌-◌, ◌^◌, min, Bool, true, not, ◌&&◌, ◌||◌, ◌==◌, nat_le, nat_lt, List, [], ◌∷◌, ◌++◌, replicate, map, length}
+use Rattle.std.specs.Prelude.{get_or, slice_get, slice_set, Option, Some, None}
 use Rattle.std.specs.List.{filter, fold, range_with_len}
 use Rattle.lab_view.specs.declared.view.Trunk.{Trunk}
 use Rattle.lab_layout.specs.declared.tree.Near.{Near}

@@ -110,7 +110,7 @@ impl Placing {
     }
 
     /// Whether the next virtual node fits at a candidate of it: those on its node may share it then, and the rule serves the ends of all that are placed.
-    /// Those placed so far have an interface for each of their ends, so its node alone is asked.
+    /// Each virtual node that is placed has an interface for each of its ends, so the next one's node alone is asked.
     pub fn fits(&mut self, alloc: Global, search: &Search, place: &Place) -> Result<bool, Memory>
         requires search { IsSearch search.now }
         requires placing { IsPlacing search.now self.old }
