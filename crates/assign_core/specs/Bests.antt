@@ -1,5 +1,5 @@
 -- The cheapest map that the code keeps.
-use Rattle.std.specs.Prelude.{◌≡◌, ◌≤◌, ◌<◌, ℕ, List, [], length, Option, Some, None, Contains, slice_index_or, Bool, true, nat_lt}
+use Rattle.std.specs.Prelude.{◌≡◌, ◌≤◌, ◌<◌, ◌==◌, ℕ, List, [], length, Option, Some, None, Contains, slice_index_or, Bool, true, false, nat_lt}
 use Rattle.virt_topo.specs.declared.mapping.Mapping.{Mapping}
 use Rattle.lab_model.specs.Shapes.{Place}
 use Rattle.node_maps.specs.Least.{IsFirstLeast}
@@ -26,3 +26,8 @@ pub record IsPartial (cs : List (List Place)) (places : List Place) : Type 0 whe
 abbrev pub is_below : ℕ → Option Priced → Bool
 is_below cost None = true
 is_below cost (Some kept) = nat_lt cost kept.cost
+
+-- there is a best map, and it costs nothing
+abbrev pub is_free : Option Priced → Bool
+is_free None = false
+is_free (Some kept) = kept.cost == 0

@@ -1,15 +1,17 @@
 // Exact search over all node maps.
-ghost use Rattle.std.specs.Prelude.{◌≡◌, ◌≤◌, ◌++◌, ◌∷◌, [], List, length, take, drop, IfOk, IfSome, OnOk};
+ghost use Rattle.std.specs.Prelude.{◌≡◌, ◌≤◌, ◌++◌, ◌∷◌, [], List, None, false, length, take, drop, IfOk, IfSome, IsTrue, OnOk};
 ghost use Rattle.std.specs.List.{filter_map, cons_option};
+ghost use Rattle.lab_base.specs.declared.ids.IfaceId.{IfaceId as IfaceIdSeen};
 ghost use Rattle.virt_topo.specs.declared.mapping.Mapping.{Mapping as MappingValue};
 ghost use Rattle.virt_topo.specs.Soundness.{IsSound};
 ghost use Rattle.lab_model.specs.Shapes.{IsFreeOf};
+ghost use Rattle.cost_rule.specs.Parts.{HangsOnNoUses};
 ghost use Rattle.map_state.specs.Chosen.{IsChosen};
 ghost use Rattle.map_state.specs.States.{IsMapState};
 ghost use Rattle.map_state.specs.Tables.{IsSearch};
 ghost use Rattle.map_anneal.specs.Sought.{sought, choices, mapped, price, IsNodeMap};
 ghost use Rattle.map_anneal.specs.Searches.{sought_of, IsPriced};
-ghost use Rattle.assign_core.specs.Bests.{IsBest, is_below};
+ghost use Rattle.assign_core.specs.Bests.{IsBest, is_below, is_free};
 ghost use Rattle.assign_core.specs.Exact.{all_choices, count, node_maps, IsCheapestOf};
 
 use crate::begin::first_choice;
@@ -34,6 +36,19 @@ fn is_below(cost: u64, best: &Option<Priced>) -> bool
     }
 }
 
+/// Whether a choice is known to cost no less than the best map, whatever it uses of trunks.
+fn is_no_less(search: &Search, rule: &StepRule, state: &MapState, best: &Option<Priced>) -> bool
+    requires search { IsSearch search.now }
+    requires state { IsMapState search.now state.now }
+    ensures { IsTrue result → (plugs : List IfaceIdSeen)
+        → is_below (price (sought_of search.now rule.now.number) (record { places = state.now.mapping.places; plugs = plugs })) best.now ≡ false }
+{
+    match best {
+        Some(kept) => rule.ask_parts(state.parts_at_rest(search)) >= kept.cost,
+        None => false,
+    }
+}
+
 /// The cost of a map that is taken: the rule's step from the best one so far answers it, and the rule that of the first one.
 fn taken_cost(search: &Search, rule: &StepRule, state: &MapState, best: &Option<Priced>) -> u64
     requires search { IsSearch search.now }
@@ -49,7 +64,7 @@ fn taken_cost(search: &Search, rule: &StepRule, state: &MapState, best: &Option<
     }
 }
 
-/// The best map after the one that is chosen, if it is one.
+/// The best map after the one that is chosen, if it is one. A choice that is known to cost no less than the best map isn't served.
 fn weigh(
     alloc: Global,
     search: &Search,
@@ -60,13 +75,18 @@ fn weigh(
     requires search { IsSearch search.now }
     requires chosen { IsChosen search.now chosen.old }
     requires priced { IfSome best (IsPriced (sought_of search.now rule.now.number)) }
+    requires resting { chosen.old.state.sums ≡ None → HangsOnNoUses rule.now.number }
     ensures chosen { OnOk result (IsChosen search.now chosen.new) }
+    ensures rest { OnOk result (chosen.new.state.sums ≡ None → chosen.old.state.sums ≡ None) }
     ensures places { OnOk result (chosen.new.state.mapping.places ≡ chosen.old.state.mapping.places) }
     ensures priced { IfOk result (λ after. IfSome after (IsPriced (sought_of search.now rule.now.number))) }
     ensures best { IfOk result (λ after. (maps : List MappingValue) → IsBest (sought_of search.now rule.now.number) maps best
         → IsBest (sought_of search.now rule.now.number)
         (maps ++ cons_option (mapped (sought_of search.now rule.now.number) chosen.old.state.mapping.places) []) after) }
 {
+    if is_no_less(search, rule, &chosen.state, &best) {
+        return Ok(best);
+    }
     if !chosen.is_map(alloc, search)? {
         return Ok(best);
     }
@@ -78,7 +98,17 @@ fn weigh(
     Ok(Some(Priced { mapping, cost }))
 }
 
-/// The best map after all those that begin with the first places of the one that is chosen.
+/// Whether there is a best map, and it costs nothing.
+fn is_free(best: &Option<Priced>) -> bool
+    ensures { result ≡ is_free best.now }
+{
+    match best {
+        Some(kept) => kept.cost == 0,
+        None => false,
+    }
+}
+
+/// The best map after all those that begin with the first places of the one that is chosen. Behind a map that costs nothing no other is looked at.
 fn explore(
     alloc: Global,
     search: &Search,
@@ -91,7 +121,9 @@ fn explore(
     requires chosen { IsChosen search.now chosen.old }
     requires begun { begun ≤ length (choices (sought_of search.now rule.now.number)) }
     requires priced { IfSome best (IsPriced (sought_of search.now rule.now.number)) }
+    requires resting { chosen.old.state.sums ≡ None → HangsOnNoUses rule.now.number }
     ensures chosen { OnOk result (IsChosen search.now chosen.new) }
+    ensures rest { OnOk result (chosen.new.state.sums ≡ None → chosen.old.state.sums ≡ None) }
     ensures places { OnOk result (take begun chosen.new.state.mapping.places ≡ take begun chosen.old.state.mapping.places) }
     ensures priced { IfOk result (λ after. IfSome after (IsPriced (sought_of search.now rule.now.number))) }
     ensures best { IfOk result (λ after. (maps : List MappingValue) → IsBest (sought_of search.now rule.now.number) maps best
@@ -108,6 +140,9 @@ fn explore(
         let place = *search.candidates.at(begun, number);
         chosen.put(alloc, search, begun, place);
         kept = explore(alloc, search, rule, begun + 1, chosen, kept)?;
+        if is_free(&kept) {
+            return Ok(kept);
+        }
     }
     Ok(kept)
 }

@@ -3,3 +3,4 @@ pub mod Different
 mod KindSteps
 mod LimitLaws
 pub mod PartLaws
+pub mod UseLaws

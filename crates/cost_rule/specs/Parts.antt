@@ -29,3 +29,11 @@ pub record AreParts (p : Parts) : Type 0 where
   pub sound : IsSound wiring
   pub shaped : IsShaped lab wiring mapping
   pub are : p ≡ parts_of lab wiring mapping
+
+-- the parts, but nothing is used of trunks
+abbrev pub without_uses : Parts → Parts
+without_uses p = record { uses = 0; nodes = p.nodes; soft = p.soft }
+
+-- the costs by this number hang on no uses of trunks
+abbrev pub HangsOnNoUses : RuleNumber → Type 0
+HangsOnNoUses number = (p q : Parts) → p.nodes ≡ q.nodes → p.soft ≡ q.soft → cost_of_parts number p ≡ cost_of_parts number q

@@ -1,9 +1,10 @@
 -- The searches of the code: what they go by, and the maps at hand.
-use Rattle.std.specs.Prelude.{◌≡◌, [], map}
+use Rattle.std.specs.Prelude.{◌≡◌, [], None, map}
 use Rattle.phys_lab.specs.Labs.{Lab}
 use Rattle.phys_lab.specs.declared.free.Free.{Free}
 use Rattle.virt_topo.specs.declared.wiring.Wiring.{Wiring}
 use Rattle.cost_rule.specs.declared.rule.RuleNumber.{RuleNumber}
+use Rattle.cost_rule.specs.Parts.{HangsOnNoUses}
 use Rattle.node_maps.specs.NodeMaps.{candidates as listed_in, ends_of}
 use Rattle.node_maps.specs.Indexed.{IsIndex}
 use Rattle.node_maps.specs.Rooms.{room_of}
@@ -36,8 +37,9 @@ pub record IsPrepared (lab : Lab) (free : Free) (w : Wiring) (x : Prepared) : Ty
 abbrev pub priced_by : Tried → Priced
 priced_by x = record { mapping = x.state.mapping; cost = x.cost }
 
--- a feasible node map with what is kept of it, and its cost
+-- a feasible node map with what is kept of it, and its cost; its sums rest only where the costs hang on no uses
 pub record IsTried (search : Search) (number : RuleNumber) (x : Tried) : Type 0 where
   pub state : IsFeasibleState search x.state
   pub none : x.state.back.items ≡ []
   pub cost : x.cost ≡ price (sought_of search number) x.state.mapping
+  pub resting : x.state.sums ≡ None → HangsOnNoUses number

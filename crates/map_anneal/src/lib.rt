@@ -7,6 +7,7 @@ mod moves;
 mod notes;
 mod prepared;
 mod priced;
+mod resting;
 mod step;
 mod tried;
 mod walk;

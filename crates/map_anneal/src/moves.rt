@@ -1,11 +1,11 @@
 // Moves and exchanges of virtual nodes in the map at hand.
 ghost use Rattle.std.specs.Prelude.{◌≡◌, ◌<◌, ◌≤◌, ◌↔◌, IfOk, IfSome, IsSome, OnOk, IsTrue, true, false, Some, Contains};
-ghost use Rattle.std.specs.Prelude.{List, [], length, slice_index_or, slice_set};
+ghost use Rattle.std.specs.Prelude.{List, [], None, length, slice_index_or, slice_set};
 ghost use Rattle.lab_base.specs.declared.ids.IfaceId.{IfaceId as IfaceIdSeen};
 ghost use Rattle.virt_topo.specs.declared.mapping.Mapping.{Mapping as MappingSeen};
 ghost use Rattle.lab_model.specs.Shapes.{Place as PlaceSeen};
 ghost use Rattle.lab_model.specs.Rules.{no_place, place_at};
-ghost use Rattle.cost_rule.specs.Parts.{cost_of_parts, AreParts};
+ghost use Rattle.cost_rule.specs.Parts.{cost_of_parts, AreParts, HangsOnNoUses};
 ghost use Rattle.node_maps.specs.NodeMaps.{candidates, node_map, plugs_of};
 ghost use Rattle.map_state.specs.States.{IsMapState, IsPlanned, Was};
 ghost use Rattle.map_state.specs.Hosted.{placed_at};
@@ -23,15 +23,19 @@ use map_state::{Foretold, MapState, Search};
 use node_maps::Place;
 use std::alloc::Global;
 
-/// The cost of a map state.
+/// The cost of a map state. Where its sums rest the rule is asked without the uses of trunks.
 pub fn cost_of(search: &Search, rule: &StepRule, state: &MapState) -> u64
     requires search { IsSearch search.now }
     requires state { IsMapState search.now state.now }
+    requires resting { state.now.sums ≡ None → HangsOnNoUses rule.now.number }
     ensures { result ≡ price (sought_of search.now rule.now.number) state.now.mapping }
 {
     // for the prover: it tells what every lab keeps
     let _kept = search.mapper.lab.range();
-    rule.ask_parts(state.parts(search))
+    match state.parts(search) {
+        Some(parts) => rule.ask_parts(parts),
+        None => rule.ask_parts(state.parts_at_rest(search)),
+    }
 }
 
 /// Whether a move that is told is told to cost at least that.
@@ -47,7 +51,8 @@ fn is_told_over(rule: &StepRule, told: &Option<Foretold>, below: u128) -> bool
 }
 
 impl Tried {
-    /// Whether a node map of these places, whose plugs are planned, is known to cost at least that. One that was told to cost less isn't asked about.
+    /// Whether a node map of these places, whose plugs are planned, is known to cost at least that: by its parts, or by those but for the uses of
+    /// trunks where its parts aren't foreseen. One that was told to cost less isn't asked about.
     fn is_over(
         &self,
         search: &Search,
@@ -76,7 +81,7 @@ impl Tried {
         }
         match self.state.foreseen(search) {
             Some(parts) => u128::from(rule.ask_parts(parts)) >= below,
-            None => false,
+            None => u128::from(rule.ask_parts(self.state.parts_at_rest(search))) >= below,
         }
     }
 
@@ -95,12 +100,14 @@ impl Tried {
         requires search { IsSearch search.now }
         requires state { IsMapState search.now self.old.state }
         requires none { self.old.state.back.items ≡ [] }
+        requires resting { self.old.state.sums ≡ None → HangsOnNoUses rule.now.number }
         requires first { first.0.0 < length search.now.mapper.lab.now.nodes }
         requires first_virt { first.1 < length search.now.mapper.wiring.now.nodes }
         requires second { second.0.0 < length search.now.mapper.lab.now.nodes }
         requires second_virt { second.1 < length search.now.mapper.wiring.now.nodes }
         ensures state { OnOk result (IsMapState search.now self.new.state) }
         ensures none { OnOk result (self.new.state.back.items ≡ []) }
+        ensures rest { OnOk result (self.new.state.sums ≡ None → self.old.state.sums ≡ None) }
         ensures places { OnOk result (self.new.state.mapping.places ≡ self.old.state.mapping.places) }
         ensures map { IfOk result (λ yes. yes ≡ true → (last : List PlaceSeen)
             → Was search.now self.old.state.mapping.places self.old.state.mapping.plugs first.0.0 second.0.0 last
@@ -149,6 +156,31 @@ impl Tried {
         Ok(true)
     }
 
+    /// Whether a move of a virtual node to another of its candidates is known to cost at least that, whatever it uses of trunks. One that was told
+    /// to cost less isn't asked about.
+    fn is_least_over(
+        &self,
+        search: &Search,
+        rule: &StepRule,
+        node: usize,
+        place: &Place,
+        below: u128,
+        told: bool,
+    ) -> bool
+        requires search { IsSearch search.now }
+        requires state { IsMapState search.now self.now.state }
+        requires virt { node < length search.now.mapper.wiring.now.nodes }
+        requires among { Contains (candidates_at (sought_of search.now rule.now.number) node) place.now }
+        ensures { IsTrue result → (plugs : List IfaceIdSeen) → below
+            ≤ price (sought_of search.now rule.now.number) (record { places = slice_set self.now.state.mapping.places node place.now; plugs = plugs }) }
+    {
+        if told {
+            return false;
+        }
+        let parts = self.state.parts_but_uses(search, node, place);
+        u128::from(rule.ask_parts(parts)) >= below
+    }
+
     /// Moves a virtual node to another of its candidates, where the map is feasible and costs less than that: where the move isn't told to cost
     /// as much, it is placed there, and back where that comes to nothing.
     fn move_to_if_cheaper(
@@ -181,9 +213,13 @@ impl Tried {
             self.weighed = true;
             return Ok(false);
         }
+        if self.is_least_over(search, rule, node, place, below, told.is_some()) {
+            self.weighed = true;
+            return Ok(false);
+        }
         let to = place.0;
         let old = place_of(self.state.mapping.places.as_slice(), node);
-        let soft = self.state.parts(search).soft;
+        let soft = self.state.soft(search);
         let counted = self.state.counted(search, node);
         self.state.place_told(alloc, search, node, *place, told);
         if self.commit_if_cheaper(
@@ -267,6 +303,7 @@ impl Tried {
         ensures state { IsMapState search.now self.new.state }
         ensures mapping { self.new.state.mapping ≡ placed_at (placed_at self.old.state.mapping first first_place.now) second second_place.now }
         ensures back { self.new.state.back.items ≡ self.old.state.back.items }
+        ensures sums { self.new.state.sums ≡ self.old.state.sums }
         ensures cost { self.new.cost ≡ self.old.cost }
         ensures weighed { self.new.weighed ≡ self.old.weighed }
     {

@@ -4,6 +4,7 @@ ghost use Rattle.map_anneal.specs.Sought.{IsNodeMap};
 ghost use Rattle.map_anneal.specs.Searches.{sought_of, priced_by, IsPriced, IsTried};
 
 use crate::priced::{Priced, copy_onto};
+use crate::resting::rest;
 use cost_rule::StepRule;
 use lab_base::Memory;
 use map_state::{MapState, Search};
@@ -20,7 +21,7 @@ pub struct Tried {
 }
 
 impl Tried {
-    /// A feasible node map to begin with, with its cost.
+    /// A feasible node map to begin with, with its cost. Its sums rest where no search needs them.
     pub fn of(
         alloc: Global,
         search: &Search,
@@ -33,8 +34,9 @@ impl Tried {
         ensures start { IfOk result (λ x. x.state.mapping ≡ start.now) }
     {
         let mapper = search.mapper;
-        let state = MapState::of(alloc, search, start)?;
+        let mut state = MapState::of(alloc, search, start)?;
         let cost = rule.ask(mapper.lab, mapper.wiring, start);
+        rest(search, rule, &mut state);
         Ok(Tried {
             state,
             cost,

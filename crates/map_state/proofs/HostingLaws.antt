@@ -318,6 +318,60 @@ used_alone places v p lt alone empty =
     (λ j. different same_node (others_set places v p j) + one_if (eqb (guests (others_set places v p j) (get_or-set_same places v p no_place lt j).0.0) 0)) in
     omega (arith, whole, whole_after, same, flag_a, flag_b)
 
+-- it goes to another node: one node more is in use where none was there, and one less where it was alone
+pub used_apart : (places : List Place) (v : ℕ) (p : Place) (after : ℕ) → v < length places → (get_or places v no_place).0.0 ≢ p.0.0
+    → after + one_if (eqb (guests_at places (get_or places v no_place).0.0) 1) ≡ different same_node (nodes_of places) + one_if (eqb (guests_at places p.0.0) 0)
+    → after ≡ different same_node (nodes_of (set places v p))
+used_apart places v p after lt apart is =
+    let a = (get_or places v no_place).0.0 in
+    let b = p.0.0 in
+    let out = others places v in
+    let left_a = guest_left places v a lt in
+    let left_b = guest_left places v b lt in
+    let own : ◌≡◌ {A = ℕ} (one_if (eqb a a)) 1 = ap one_if (eq-eqb a a refl) in
+    let none : ◌≡◌ {A = ℕ} (one_if (eqb a b)) 0 = ap one_if (ne_eqb a b apart) in
+    let was : guests_at places a ≡ guests out a + 1 = omega (arith, left_a, own) in
+    let there : guests_at places b ≡ guests out b = omega (arith, left_b, none) in
+    let flag_a : ◌≡◌ {A = ℕ} (one_if (eqb (guests_at places a) 1)) (one_if (eqb (guests out a) 0)) = ap (λ (j : ℕ). one_if (eqb j 1)) was ∙ by_count (guests out a) in
+    let flag_b : ◌≡◌ {A = ℕ} (one_if (eqb (guests_at places b) 0)) (one_if (eqb (guests out b) 0)) = ap (λ (j : ℕ). one_if (eqb j 0)) there in
+    let whole = used_left places v lt in
+    let whole_after = used_left (set places v p) v (omega (arith, lt, length-set places v p)) in
+    let same : ◌≡◌ {A = ℕ} (different same_node (others (set places v p) v) + one_if (eqb (guests (others (set places v p) v) (get_or (set places v p) v no_place).0.0) 0)) (different same_node out + one_if (eqb (guests out b) 0)) =
+    (λ j. different same_node (others_set places v p j) + one_if (eqb (guests (others_set places v p j) (get_or-set_same places v p no_place lt j).0.0) 0)) in
+    omega (arith, is, whole, whole_after, same, flag_a, flag_b)
+  where
+    by_count : (c : ℕ) → one_if (eqb (c + 1) 1) ≡ one_if (eqb c 0)
+    by_count zero = refl
+    by_count (suc c) = ap one_if (ne_eqb (suc c + 1) 1 (λ e. absurd (omega (arith, e)))) ∙ sym (ap one_if (ne_eqb (suc c) 0 (λ e. absurd (omega (arith, e)))))
+
+-- one that is alone is on a node in use
+pub used_some : (places : List Place) (v : ℕ) → v < length places → one_if (eqb (guests_at places (get_or places v no_place).0.0) 1) ≤ different same_node (nodes_of places)
+used_some places v lt =
+    let a = (get_or places v no_place).0.0 in
+    let out = others places v in
+    let left_a = guest_left places v a lt in
+    let own : ◌≡◌ {A = ℕ} (one_if (eqb a a)) 1 = ap one_if (eq-eqb a a refl) in
+    let was : guests_at places a ≡ guests out a + 1 = omega (arith, left_a, own) in
+    let flag : ◌≡◌ {A = ℕ} (one_if (eqb (guests_at places a) 1)) (one_if (eqb (guests out a) 0)) = ap (λ (j : ℕ). one_if (eqb j 1)) was ∙ by_count (guests out a) in
+    let whole = used_left places v lt in
+    omega (arith, flag, whole)
+  where
+    by_count : (c : ℕ) → one_if (eqb (c + 1) 1) ≡ one_if (eqb c 0)
+    by_count zero = refl
+    by_count (suc c) = ap one_if (ne_eqb (suc c + 1) 1 (λ e. absurd (omega (arith, e)))) ∙ sym (ap one_if (ne_eqb (suc c) 0 (λ e. absurd (omega (arith, e)))))
+
+-- it stays on its node
+pub used_stays : (places : List Place) (v : ℕ) (p : Place) → v < length places → (get_or places v no_place).0.0 ≡ p.0.0
+    → different same_node (nodes_of (set places v p)) ≡ different same_node (nodes_of places)
+used_stays places v p lt stays =
+    let out = others places v in
+    let whole = used_left places v lt in
+    let whole_after = used_left (set places v p) v (omega (arith, lt, length-set places v p)) in
+    let same : ◌≡◌ {A = ℕ} (different same_node (others (set places v p) v) + one_if (eqb (guests (others (set places v p) v) (get_or (set places v p) v no_place).0.0) 0)) (different same_node out + one_if (eqb (guests out p.0.0) 0)) =
+    (λ j. different same_node (others_set places v p j) + one_if (eqb (guests (others_set places v p j) (get_or-set_same places v p no_place lt j).0.0) 0)) in
+    let flag : ◌≡◌ {A = ℕ} (one_if (eqb (guests out (get_or places v no_place).0.0) 0)) (one_if (eqb (guests out p.0.0) 0)) = ap (λ (k : ℕ). one_if (eqb (guests out k) 0)) stays in
+    omega (arith, whole, whole_after, same, flag)
+
 pub guests_went : (n : ℕ) (places : List Place) (v : ℕ) (p : Place) (g h k : List ℕ) (x y z : ℕ) → v < length places → Went n places v p g h k x y z
     → (i : ℕ) → i < n → get_or k i 0 ≡ guests_at (set places v p) i
 guests_went n places v p g h k x y z lt w i i_lt =

@@ -22,3 +22,4 @@ mod OwnEnds
 mod ListedLaws
 mod Served
 pub mod GuestLaws
+mod SpareLaws

@@ -181,33 +181,42 @@ pub record Asked (lab : Lab) (w : Wiring) (m : Mapping) : Type 0 where
   pub typed : AllPass (length w.nodes) (has_class_type w m.places)
   pub joined : AllPass (length w.segments) (keeps_f7 lab w m)
 
--- THEN ROOM ON THE TRUNKS DECIDES
-pub whole_by_room : (lab : Lab) (free : Free) (w : Wiring) (m : Mapping) (x : Sums) (b : Bool) → Shared lab free w m → Asked lab w m → IsSummed lab w m.plugs x
+-- the uses that are kept tell whether each trunk has room
+pub fits_by_sums : (lab : Lab) (free : Free) (w : Wiring) (m : Mapping) (x : Sums) (b : Bool) → IsShaped lab w m → IsSummed lab w m.plugs x
     → (IsTrue b ↔ AllPass (length x.uses.items) (λ t. nat_le (get_or x.uses.items t 0) (get_or free.left t 0)))
+    → (IsTrue b ↔ AllPass (length lab.trunks) (keeps_f6 lab free w m))
+fits_by_sums lab free w m x b shaped summed room = (
+  (λ yes t lt. sym (room_at lab free w m x t summed shaped lt) ∙ room.0 yes t (let count = summed.one_each in omega (arith, lt, count))),
+  (λ fits. room.1 (λ t lt. let within : t < length lab.trunks = (let count = summed.one_each in omega (arith, lt, count)) in room_at lab free w m x t summed shaped within ∙ fits t within)),
+)
+
+-- THEN ROOM ON THE TRUNKS DECIDES
+pub whole_by_room : (lab : Lab) (free : Free) (w : Wiring) (m : Mapping) (b : Bool) → Shared lab free w m → Asked lab w m
+    → (IsTrue b ↔ AllPass (length lab.trunks) (keeps_f6 lab free w m))
     → node_map lab free w m.places ≡ cond b (Some m) None
-whole_by_room lab free w m x true f asked summed room =
+whole_by_room lab free w m true f asked room =
     map_of_parts lab free w m.places m.plugs f.sound f.choice (record {
       given = f.given;
       shared = f.shared;
       typed = asked.typed;
-      room = λ t lt. sym (room_at lab free w m x t summed f.shaped lt) ∙ room.0 refl t (let count = summed.one_each in omega (arith, lt, count));
+      room = room.0 refl;
       joined = asked.joined;
       ids = f.ids;
     })
-whole_by_room lab free w m x false f asked summed room =
+whole_by_room lab free w m false f asked room =
     no_map lab free w m.places (λ plugs all.
     let same : plugs ≡ m.plugs = same_Some plugs m.plugs (sym all.given ∙ f.given) in
     let fits : AllPass (length lab.trunks) (keeps_f6 lab free w m) = subst (λ (l : List IfaceId). AllPass (length lab.trunks) (keeps_f6 lab free w (record { places = m.places; plugs = l }))) same all.room in
-    let both : false ≡ true = room.1 (λ t lt. let within : t < length lab.trunks = (let count = summed.one_each in omega (arith, lt, count)) in room_at lab free w m x t summed f.shaped within ∙ fits t within) in
+    let both : false ≡ true = room.1 fits in
     absurd (cc both))
 
-pub kept_by_room : (lab : Lab) (free : Free) (w : Wiring) (m : Mapping) (a b : ℕ) (last : List Place) (old : List IfaceId) (x : Sums) (b1 : Bool) → Fresh lab free w m a b last old → Asked lab w m
-    → may_share lab w m.places a ≡ true → may_share lab w m.places b ≡ true → IsSummed lab w m.plugs x
-    → (IsTrue b1 ↔ AllPass (length x.uses.items) (λ t. nat_le (get_or x.uses.items t 0) (get_or free.left t 0)))
+pub kept_by_room : (lab : Lab) (free : Free) (w : Wiring) (m : Mapping) (a b : ℕ) (last : List Place) (old : List IfaceId) (b1 : Bool) → Fresh lab free w m a b last old → Asked lab w m
+    → may_share lab w m.places a ≡ true → may_share lab w m.places b ≡ true
+    → (IsTrue b1 ↔ AllPass (length lab.trunks) (keeps_f6 lab free w m))
     → node_map lab free w m.places ≡ cond b1 (Some m) None
-kept_by_room lab free w m a b last old x b1 f asked shares_a shares_b summed room =
+kept_by_room lab free w m a b last old b1 f asked shares_a shares_b room =
     let before = parts_of_map lab free w last (record { places = last; plugs = old }) f.mapped in
-    whole_by_room lab free w m x b1 (record {
+    whole_by_room lab free w m b1 (record {
       kept = f.kept;
       sound = f.sound;
       choice = f.choice;
@@ -219,7 +228,7 @@ kept_by_room lab free w m a b last old x b1 f asked shares_a shares_b summed roo
         typed = asked.typed;
       });
       ids = before.ids;
-    }) asked summed room
+    }) asked room
 
 -- where some class or some segment is not as it has to be, that is no node map
 pub not_typed : (lab : Lab) (free : Free) (w : Wiring) (places : List Place) (b : Bool) → (IsTrue b ↔ AllPass (length w.nodes) (has_class_type w places)) → b ≡ false → node_map lab free w places ≡ None

@@ -10,3 +10,4 @@ pub mod Planned
 pub mod Foretold
 pub mod Placings
 pub mod Chosen
+pub mod Spare

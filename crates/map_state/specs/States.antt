@@ -1,5 +1,5 @@
 -- THE MAP STATE: a node map, and what is kept of it.
-use Rattle.std.specs.Prelude.{◌≡◌, ◌++◌, ℕ, List, [], filter, Some}
+use Rattle.std.specs.Prelude.{◌≡◌, ◌++◌, ℕ, List, [], filter, Some, None, IfSome}
 use Rattle.lab_base.specs.declared.ids.IfaceId.{IfaceId}
 use Rattle.phys_lab.specs.Labs.{Lab}
 use Rattle.lab_model.specs.Rules.{Laid}
@@ -16,6 +16,7 @@ use Rattle.map_state.specs.declared.search.Search.{Search}
 use Rattle.map_state.specs.declared.state.MapState.{MapState}
 use Rattle.map_state.specs.Nodes.{is_on, numbers_of, changes_of}
 use Rattle.map_state.specs.Hosted.{IsHosting}
+use Rattle.map_state.specs.Spare.{AreSpare}
 
 -- nothing is given
 pub record IsIdle (lab : Lab) (x : Given) : Type 0 where
@@ -32,12 +33,13 @@ pub record IsNoted (lab : Lab) (rows : List EndRow) (es : List End) (places : Li
   pub given : plugs_from lab places (filter (is_on places n) es) ≡ Some plugs
   pub noted : later ≡ earlier ++ changes_of rows (numbers_of 0 (is_on places n) es) plugs
 
--- a place for each virtual node and a plug for each end, with what is kept of them; a plug's node need not be its end's
+-- a place for each virtual node and a plug for each end, with what is kept of them; a plug's node need not be its end's. The sums may rest where no trunk can be filled
 pub record IsMapState (x : Search) (b : MapState) : Type 0 where
   pub choice : IsChoice (candidates x.mapper.lab.now x.mapper.free.now x.mapper.wiring.now) b.mapping.places
   pub shaped : IsShaped x.mapper.lab.now x.mapper.wiring.now b.mapping
   pub hosting : IsHosting x.mapper.lab.now x.mapper.wiring.now b.mapping b.hosting
-  pub summed : IsSummed x.mapper.lab.now x.mapper.wiring.now b.mapping.plugs b.sums
+  pub summed : IfSome b.sums (IsSummed x.mapper.lab.now x.mapper.wiring.now b.mapping.plugs)
+  pub spare : b.sums ≡ None → AreSpare x.mapper.lab.now x.mapper.free.now x.mapper.wiring.now
   pub idle : IsIdle x.mapper.lab.now b.given
 
 -- a feasible node map

@@ -1,6 +1,6 @@
 // Choices of candidates that change place by place.
 ghost use Rattle.std.specs.Prelude.{◌≡◌, ◌<◌, ◌==◌, ◌&&◌, ℕ, true, false, [], length, slice_index_or, slice_set, Contains, Some, None, if◌then◌else◌, IfOk};
-ghost use Rattle.std.specs.Prelude.{OnOk};
+ghost use Rattle.std.specs.Prelude.{OnOk, IsSome};
 ghost use Rattle.lab_base.specs.Names.{same_name};
 ghost use Rattle.lab_model.specs.Shapes.{IsShaped};
 ghost use Rattle.lab_model.specs.Rules.{no_place};
@@ -37,7 +37,8 @@ impl Chosen {
         requires search { IsSearch search.now }
         requires choice { IsChoice (candidates search.now.mapper.lab.now search.now.mapper.free.now search.now.mapper.wiring.now) start.now.places }
         requires shaped { IsShaped search.now.mapper.lab.now search.now.mapper.wiring.now start.now }
-        ensures { IfOk result (IsChosen search.now) }
+        ensures chosen { IfOk result (IsChosen search.now) }
+        ensures summed { IfOk result (λ chosen. IsSome chosen.state.sums) }
     {
         let state = MapState::of_choice(alloc, search, start)?;
         let stale = vec![in alloc; true; search.mapper.lab.nodes().len()]?;
@@ -52,6 +53,7 @@ impl Chosen {
         requires among { Contains (slice_index_or (candidates search.now.mapper.lab.now search.now.mapper.free.now search.now.mapper.wiring.now) virt [])
             place }
         ensures chosen { IsChosen search.now self.new }
+        ensures rest { self.new.state.sums ≡ None → self.old.state.sums ≡ None }
         ensures places { self.new.state.mapping.places ≡ slice_set self.old.state.mapping.places virt place }
     {
         let old = self.state.mapping.places.as_slice()[virt];
@@ -69,6 +71,7 @@ impl Chosen {
         requires chosen { IsChosen search.now self.old }
         requires virt { virt < length search.now.mapper.wiring.now.nodes }
         ensures chosen { OnOk result (IsChosen search.now self.new) }
+        ensures rest { OnOk result (self.new.state.sums ≡ None → self.old.state.sums ≡ None) }
         ensures places { OnOk result (self.new.state.mapping.places ≡ self.old.state.mapping.places) }
         ensures fresh { IfOk result (λ yes. yes ≡ true
             → slice_index_or self.new.stale.items (slice_index_or self.old.state.mapping.places virt no_place).0.0 true ≡ false) }
@@ -92,6 +95,7 @@ impl Chosen {
         requires search { IsSearch search.now }
         requires chosen { IsChosen search.now self.old }
         ensures chosen { OnOk result (IsChosen search.now self.new) }
+        ensures rest { OnOk result (self.new.state.sums ≡ None → self.old.state.sums ≡ None) }
         ensures places { OnOk result (self.new.state.mapping.places ≡ self.old.state.mapping.places) }
         ensures fresh { IfOk result (λ yes. yes ≡ true → (v : ℕ) → v < length search.now.mapper.wiring.now.nodes
             → slice_index_or self.new.stale.items (slice_index_or self.old.state.mapping.places v no_place).0.0 true ≡ false) }
@@ -111,6 +115,7 @@ impl Chosen {
         requires search { IsSearch search.now }
         requires chosen { IsChosen search.now self.old }
         ensures chosen { OnOk result (IsChosen search.now self.new) }
+        ensures rest { OnOk result (self.new.state.sums ≡ None → self.old.state.sums ≡ None) }
         ensures places { OnOk result (self.new.state.mapping.places ≡ self.old.state.mapping.places) }
         ensures map { IfOk result (λ yes. node_map search.now.mapper.lab.now search.now.mapper.free.now search.now.mapper.wiring.now
             self.old.state.mapping.places ≡ (if yes then Some self.new.state.mapping else None)) }

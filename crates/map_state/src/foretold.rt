@@ -3,8 +3,9 @@ ghost use Rattle.std.specs.Prelude.{◌≡◌, ◌<◌, ◌≤◌, ◌==◌, ◌
 ghost use Rattle.lab_base.specs.declared.ids.IfaceId.{IfaceId as IfaceIdSeen};
 ghost use Rattle.virt_topo.specs.Ends.{end_nodes};
 ghost use Rattle.virt_topo.specs.Wirings.{virt_at};
-ghost use Rattle.cost_rule.specs.Cost.{soft as soft_in};
-ghost use Rattle.cost_rule.specs.Parts.{parts_of, AreParts};
+ghost use Rattle.cost_rule.specs.Cost.{cost, soft as soft_in};
+ghost use Rattle.cost_rule.specs.declared.rule.RuleNumber.{RuleNumber as NumberSeen};
+ghost use Rattle.cost_rule.specs.Parts.{parts_of, cost_of_parts, without_uses, AreParts};
 ghost use Rattle.trunk_sums.specs.Remade.{remade};
 ghost use Rattle.trunk_sums.specs.Summed.{IsSummed};
 ghost use Rattle.trunk_sums.specs.Totals.{used_of_all};
@@ -97,6 +98,41 @@ impl MapState {
         )
     }
 
+    /// The parts of the cost after a move of a virtual node to another of its candidates, but for the uses of trunks: what they cost is at most what the
+    /// move comes to, whatever interfaces the rule gives.
+    pub fn parts_but_uses(&self, search: &Search, virt: usize, place: &Place) -> Parts
+        requires search { IsSearch search.now }
+        requires state { IsMapState search.now self.now }
+        requires virt { virt < length search.now.mapper.wiring.now.nodes }
+        requires among { Contains (slice_index_or (candidates search.now.mapper.lab.now search.now.mapper.free.now search.now.mapper.wiring.now) virt [])
+            place.now }
+        ensures parts { result ≡ without_uses (parts_of search.now.mapper.lab.now search.now.mapper.wiring.now (placed_at self.now.mapping virt place.now)) }
+        ensures fit { AreParts result }
+        ensures least { (number : NumberSeen) (plugs : List IfaceIdSeen) → cost_of_parts number result
+            ≤ cost number search.now.mapper.lab.now search.now.mapper.wiring.now
+            (record { places = (placed_at self.now.mapping virt place.now).places; plugs = plugs }) }
+    {
+        let mapper = search.mapper;
+        // for the prover: it tells what every lab keeps
+        let _kept = mapper.lab.range();
+        let (soft, _counted) = self.hosting.soft_after(
+            mapper.lab,
+            mapper.wiring,
+            &search.table.softs,
+            &self.mapping,
+            virt,
+            place,
+        );
+        let nodes = self
+            .hosting
+            .nodes_after(mapper.lab, mapper.wiring, &self.mapping, virt, place);
+        Parts {
+            uses: 0,
+            nodes,
+            soft,
+        }
+    }
+
     /// The parts of the cost after a move of a virtual node to another of its candidates, whatever interfaces the rule gives. They are told exactly
     /// where it is alone on its node, the other node is empty, and each of its ends fits the interface of its own place there.
     pub fn foretell(&self, search: &Search, virt: usize, place: &Place) -> Option<Foretold>
@@ -105,7 +141,8 @@ impl MapState {
         requires virt { virt < length search.now.mapper.wiring.now.nodes }
         requires among { Contains (slice_index_or (candidates search.now.mapper.lab.now search.now.mapper.free.now search.now.mapper.wiring.now) virt [])
             place.now }
-        ensures told { IsSome result ↔ IsLone search.now self.now.mapping.places virt place.now }
+        ensures told { IsSome self.now.sums → (IsSome result ↔ IsLone search.now self.now.mapping.places virt place.now) }
+        ensures lone { IsSome result → IsLone search.now self.now.mapping.places virt place.now }
         ensures parts { IfSome result (λ told. (plugs : List IfaceIdSeen)
             → plugs_of search.now.mapper.lab.now search.now.mapper.wiring.now (placed_at self.now.mapping virt place.now).places ≡ Some plugs
             → told.parts ≡ parts_of search.now.mapper.lab.now search.now.mapper.wiring.now
@@ -116,6 +153,9 @@ impl MapState {
         ensures counted { IfSome result (λ told. told.counted
             ≡ asked_place search.now.mapper.wiring.now (virt_at search.now.mapper.wiring.now virt).asks place.now.1) }
     {
+        let Some(sums) = &self.sums else {
+            return None;
+        };
         if !self.is_lone(search, virt, place) {
             return None;
         }
@@ -132,7 +172,7 @@ impl MapState {
         );
         let uses = uses_in_order(
             search,
-            &self.sums,
+            sums,
             self.mapping.plugs.as_slice(),
             virt,
             mapper.ifaces.of(place.0),
@@ -165,6 +205,7 @@ impl MapState {
             ≡ asked_place search.now.mapper.wiring.now (virt_at search.now.mapper.wiring.now virt).asks place.1) }
         ensures state { IsMapState search.now self.new }
         ensures mapping { self.new.mapping ≡ placed_at self.old.mapping virt place }
+        ensures sums { self.new.sums ≡ self.old.sums }
         ensures back { self.new.back.items ≡ self.old.back.items }
     {
         match told {

@@ -56,6 +56,13 @@ fn changed(sum: u64, more: (u64, u64), less: (u64, u64)) -> u64
     sum + more.0 + more.1 - less.0 - less.1
 }
 
+/// 1 where something holds, and else 0.
+fn one_if(holds: bool) -> u64
+    ensures { result ≡ (if holds then 1 else 0) }
+{
+    if holds { 1 } else { 0 }
+}
+
 fn set_place(alloc: Global, mapping: &mut Mapping, virt: usize, place: Place)
     requires { virt < length mapping.old.places }
     ensures { mapping.new ≡ placed_at mapping.old virt place }
@@ -217,6 +224,31 @@ impl Hosting {
         let lost = self.members.last_soft(wiring, mapping, virt);
         let soft = changed(self.soft, (after, gained), (before, lost));
         (soft, into)
+    }
+
+    /// How many nodes are in use once a virtual node is at another place.
+    pub(crate) fn nodes_after(
+        &self,
+        lab: &Lab,
+        wiring: &Wiring,
+        mapping: &Mapping,
+        virt: usize,
+        place: &Place,
+    ) -> u64
+        requires sound { IsSound wiring.now }
+        requires shaped { IsShaped lab.now wiring.now mapping.now }
+        requires hosting { IsHosting lab.now wiring.now mapping.now self.now }
+        requires virt { virt < length wiring.now.nodes }
+        requires node { place.now.0.0 < length lab.now.nodes }
+        ensures { result ≡ nodes_in_use (placed_at mapping.now virt place.now) }
+    {
+        let from = node_of(mapping, virt);
+        if from.0 == place.0.0 {
+            return self.nodes;
+        }
+        let joined = one_if(self.guests[place.0.0 as usize] == 0);
+        let left = one_if(self.guests[from.0 as usize] == 1);
+        self.nodes + joined - left
     }
 
     /// A virtual node goes to another place.

@@ -14,6 +14,7 @@ mod remake;
 mod search;
 mod serving;
 mod softs;
+mod spare;
 mod state;
 mod table;
 mod ties;

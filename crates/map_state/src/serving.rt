@@ -11,6 +11,7 @@ ghost use Rattle.map_state.specs.Tables.{IsSearch};
 
 use crate::give::give;
 use crate::joints::{all_keep_f7, changed_keep_f7};
+use crate::remake::adopt;
 use crate::search::Search;
 use crate::state::MapState;
 use crate::ties::are_kept;
@@ -147,15 +148,17 @@ impl MapState {
         requires state { IsMapState search.now self.old }
         requires changes { AreChanges search.now.mapper.lab.now search.now.mapper.wiring.now self.old.changes.items }
         ensures state { IsMapState search.now self.new }
+        ensures rest { self.new.sums ≡ None → self.old.sums ≡ None }
         ensures places { self.new.mapping.places ≡ self.old.mapping.places }
         ensures plugs { self.new.mapping.plugs ≡ remade self.old.mapping.plugs self.old.changes.items }
     {
         let mapper = search.mapper;
         let mut plugs = mem::replace(&mut self.mapping.plugs, Items::new(alloc)).into_vec();
-        self.sums.make(
+        adopt(
             mapper.lab,
             mapper.wiring,
             &search.table.crossings,
+            &mut self.sums,
             &mut plugs,
             &self.changes,
         );
@@ -176,6 +179,7 @@ impl MapState {
         requires node { node.0 < length search.now.mapper.lab.now.nodes }
         requires virt { virt < length search.now.mapper.wiring.now.nodes }
         ensures state { OnOk result (IsMapState search.now self.new) }
+        ensures rest { OnOk result (self.new.sums ≡ None → self.old.sums ≡ None) }
         ensures places { OnOk result (self.new.mapping.places ≡ self.old.mapping.places) }
         ensures served { IfOk result (λ yes. yes ≡ true
             → may_share search.now.mapper.lab.now search.now.mapper.wiring.now self.old.mapping.places node.0 ≡ true
@@ -218,6 +222,7 @@ impl MapState {
         requires node { node.0 < length search.now.mapper.lab.now.nodes }
         requires virt { virt < length search.now.mapper.wiring.now.nodes }
         ensures state { OnOk result (IsMapState search.now self.new) }
+        ensures rest { OnOk result (self.new.sums ≡ None → self.old.sums ≡ None) }
         ensures places { OnOk result (self.new.mapping.places ≡ self.old.mapping.places) }
         ensures served { IfOk result (λ yes. yes ≡ true → IsServed search.now self.new.mapping node.0) }
         ensures others { IfOk result (λ yes. (n : ℕ) → n ≢ node.0 → IsServed search.now self.old.mapping n → IsServed search.now self.new.mapping n) }
@@ -254,6 +259,6 @@ impl MapState {
         if !self.is_joined(search) {
             return false;
         }
-        has_room(mapper.free, self.sums.uses())
+        self.has_room(search)
     }
 }

@@ -1,5 +1,5 @@
 // The map state.
-ghost use Rattle.std.specs.Prelude.{◌≡◌, ◌↔◌, true, false, ◌<◌, [], List, Some, None, length, slice_index_or, if◌then◌else◌, Contains, IfOk, OnOk, IfSome};
+ghost use Rattle.std.specs.Prelude.{◌≡◌, ◌↔◌, true, false, ◌<◌, ◌≤◌, [], List, Some, None, length, slice_index_or, if◌then◌else◌, Contains, IfOk, OnOk, IfSome};
 ghost use Rattle.std.specs.Prelude.{IsSome, IsTrue};
 ghost use Rattle.virt_topo.specs.Wirings.{virt_at};
 ghost use Rattle.lab_model.specs.Shapes.{Place as PlaceSeen, IsShaped};
@@ -16,6 +16,7 @@ use crate::give::give;
 use crate::hosting::Hosting;
 use crate::remake::{remake, revert};
 use crate::search::Search;
+use crate::spare::are_spare;
 use cost_rule::Parts;
 use lab_base::{Items, Memory, NodeId};
 use node_maps::{Given, Place, Room, has_room};
@@ -29,7 +30,8 @@ use virt_topo::Mapping;
 pub struct MapState {
     pub mapping: Mapping,
     pub(crate) hosting: Hosting,
-    pub(crate) sums: Sums,
+    /// The running sums; None where they rest: nobody reads them, and no trunk can be filled.
+    pub(crate) sums: Option<Sums>,
     pub(crate) given: Given,
     pub(crate) listed: Vec<u16>,
     pub(crate) changes: Vec<Change>,
@@ -38,8 +40,12 @@ pub struct MapState {
 }
 
 impl MapState {
-    ghost use Rattle.cost_rule.specs.Cost.{soft as soft_in};
-    ghost use Rattle.cost_rule.specs.Parts.{parts_of};
+    ghost use Rattle.lab_base.specs.declared.ids.IfaceId.{IfaceId as IfaceIdSeen};
+    ghost use Rattle.cost_rule.specs.Cost.{cost, soft as soft_in};
+    ghost use Rattle.cost_rule.specs.declared.rule.RuleNumber.{RuleNumber as NumberSeen};
+    ghost use Rattle.cost_rule.specs.Parts.{parts_of, cost_of_parts, without_uses, AreParts};
+    ghost use Rattle.lab_model.specs.Feasible.{AllPass};
+    ghost use Rattle.lab_model.specs.Rules.{keeps_f6};
     ghost use Rattle.trunk_sums.specs.Foreseen.{AreApart};
     ghost use Rattle.trunk_sums.specs.Remade.{remade, AreChanges};
     ghost use Rattle.map_state.specs.Hosted.{IsOverfull, IsFull, placed_at};
@@ -57,6 +63,7 @@ impl MapState {
         requires shaped { IsShaped search.now.mapper.lab.now search.now.mapper.wiring.now start.now }
         ensures state { IfOk result (IsMapState search.now) }
         ensures start { IfOk result (λ state. state.mapping ≡ start.now) }
+        ensures summed { IfOk result (λ state. IsSome state.sums) }
         ensures none { IfOk result (λ state. state.back.items ≡ []) }
     {
         let mapper = search.mapper;
@@ -67,7 +74,7 @@ impl MapState {
         Ok(MapState {
             mapping,
             hosting,
-            sums,
+            sums: Some(sums),
             given,
             listed: Vec::new(alloc),
             changes: Vec::new(alloc),
@@ -82,23 +89,85 @@ impl MapState {
         requires mapped { node_map search.now.mapper.lab.now search.now.mapper.free.now search.now.mapper.wiring.now start.now.places ≡ Some start.now }
         ensures state { IfOk result (IsFeasibleState search.now) }
         ensures start { IfOk result (λ state. state.mapping ≡ start.now) }
+        ensures summed { IfOk result (λ state. IsSome state.sums) }
         ensures none { IfOk result (λ state. state.back.items ≡ []) }
     {
         MapState::of_choice(alloc, search, start)
     }
 
-    /// The parts of the cost.
-    pub fn parts(&self, search: &Search) -> Parts
+    /// Lets the sums rest, where no mapping can fill a trunk; false, and all as before, where one may.
+    pub fn rest(&mut self, search: &Search) -> bool
+        requires search { IsSearch search.now }
+        requires state { IsMapState search.now self.old }
+        ensures state { IsMapState search.now self.new }
+        ensures mapping { self.new.mapping ≡ self.old.mapping }
+        ensures back { self.new.back.items ≡ self.old.back.items }
+        ensures rest { IsTrue result → self.new.sums ≡ None }
+        ensures same { result ≡ false → self.new.sums ≡ self.old.sums }
+    {
+        let mapper = search.mapper;
+        if !are_spare(mapper.lab, mapper.free, mapper.wiring) {
+            return false;
+        }
+        self.sums = None;
+        true
+    }
+
+    /// The parts of the cost, where the sums don't rest.
+    pub fn parts(&self, search: &Search) -> Option<Parts>
         requires search { IsSearch search.now }
         requires state { IsMapState search.now self.now }
-        ensures { result ≡ parts_of search.now.mapper.lab.now search.now.mapper.wiring.now self.now.mapping }
+        ensures parts { IfSome result (λ parts. parts ≡ parts_of search.now.mapper.lab.now search.now.mapper.wiring.now self.now.mapping) }
+        ensures told { IsSome result ↔ IsSome self.now.sums }
     {
         let mapper = search.mapper;
         let plugs = self.mapping.plugs.as_slice();
+        match &self.sums {
+            Some(sums) => Some(Parts {
+                uses: sums.total(mapper.lab, mapper.wiring, plugs),
+                nodes: self.hosting.nodes,
+                soft: self.hosting.soft,
+            }),
+            None => None,
+        }
+    }
+
+    /// The parts of the cost but for the uses of trunks: what they cost is at most what any plugs come to.
+    pub fn parts_at_rest(&self, search: &Search) -> Parts
+        requires search { IsSearch search.now }
+        requires state { IsMapState search.now self.now }
+        ensures parts { result ≡ without_uses (parts_of search.now.mapper.lab.now search.now.mapper.wiring.now self.now.mapping) }
+        ensures fit { AreParts result }
+        ensures least { (number : NumberSeen) (plugs : List IfaceIdSeen) → cost_of_parts number result
+            ≤ cost number search.now.mapper.lab.now search.now.mapper.wiring.now (record { places = self.now.mapping.places; plugs = plugs }) }
+    {
+        // for the prover: it tells what every lab keeps
+        let _kept = search.mapper.lab.range();
         Parts {
-            uses: self.sums.total(mapper.lab, mapper.wiring, plugs),
+            uses: 0,
             nodes: self.hosting.nodes,
             soft: self.hosting.soft,
+        }
+    }
+
+    /// The unmet weights of the mapping.
+    pub fn soft(&self, _search: &Search) -> u64
+        requires state { IsMapState _search.now self.now }
+        ensures { result ≡ soft_in _search.now.mapper.lab.now _search.now.mapper.wiring.now self.now.mapping }
+    {
+        self.hosting.soft
+    }
+
+    /// Whether each trunk has room for what is used of it. Where the sums rest, no trunk can be filled.
+    pub(crate) fn has_room(&self, search: &Search) -> bool
+        requires search { IsSearch search.now }
+        requires state { IsMapState search.now self.now }
+        ensures { IsTrue result ↔ AllPass (length search.now.mapper.lab.now.trunks)
+            (keeps_f6 search.now.mapper.lab.now search.now.mapper.free.now search.now.mapper.wiring.now self.now.mapping) }
+    {
+        match &self.sums {
+            Some(sums) => has_room(search.mapper.free, sums.uses()),
+            None => true,
         }
     }
 
@@ -108,7 +177,7 @@ impl MapState {
         requires state { IsMapState search.now self.now }
         requires changes { AreChanges search.now.mapper.lab.now search.now.mapper.wiring.now self.now.changes.items }
         ensures parts { IfSome result (λ parts. parts ≡ parts_of search.now.mapper.lab.now search.now.mapper.wiring.now (planned self.now)) }
-        ensures told { IsSome result ↔ AreApart self.now.changes.items }
+        ensures told { IsSome self.now.sums → (IsSome result ↔ AreApart self.now.changes.items) }
         ensures shaped { IsShaped search.now.mapper.lab.now search.now.mapper.wiring.now (planned self.now) }
     {
         if !are_apart(&self.changes) {
@@ -117,9 +186,10 @@ impl MapState {
         let mapper = search.mapper;
         let crossings = &search.table.crossings;
         let plugs = self.mapping.plugs.as_slice();
-        let uses = self
-            .sums
-            .total_after(mapper.lab, mapper.wiring, crossings, plugs, &self.changes);
+        let Some(sums) = &self.sums else {
+            return None;
+        };
+        let uses = sums.total_after(mapper.lab, mapper.wiring, crossings, plugs, &self.changes);
         let foreseen = Parts {
             uses,
             nodes: self.hosting.nodes,
@@ -172,6 +242,7 @@ impl MapState {
             place }
         ensures state { IsMapState search.now self.new }
         ensures mapping { self.new.mapping ≡ placed_at self.old.mapping virt place }
+        ensures sums { self.new.sums ≡ self.old.sums }
         ensures back { self.new.back.items ≡ self.old.back.items }
     {
         let mapper = search.mapper;
@@ -215,6 +286,7 @@ impl MapState {
         requires counted { counted ≡ asked_place search.now.mapper.wiring.now (virt_at search.now.mapper.wiring.now virt).asks place.1 }
         ensures state { IsMapState search.now self.new }
         ensures mapping { self.new.mapping ≡ placed_at self.old.mapping virt place }
+        ensures sums { self.new.sums ≡ self.old.sums }
         ensures back { self.new.back.items ≡ self.old.back.items }
     {
         let mapper = search.mapper;
@@ -246,6 +318,7 @@ impl MapState {
         requires second_virt { second.1 < length search.now.mapper.wiring.now.nodes }
         ensures state { OnOk result (IsMapState search.now self.new) }
         ensures mapping { self.new.mapping ≡ self.old.mapping }
+        ensures sums { self.new.sums ≡ self.old.sums }
         ensures back { self.new.back.items ≡ self.old.back.items }
         ensures planned { IfOk result (λ yes. yes ≡ true → IsPlanned search.now self.new.mapping.places first.0.0 second.0.0 self.new.changes.items) }
         ensures none { IfOk result (λ yes. yes ≡ false → plugs_of search.now.mapper.lab.now search.now.mapper.wiring.now self.new.mapping.places ≡ None) }
@@ -286,6 +359,7 @@ impl MapState {
         requires changes { AreChanges search.now.mapper.lab.now search.now.mapper.wiring.now self.old.changes.items }
         requires none { self.old.back.items ≡ [] }
         ensures state { OnOk result (IsMapState search.now self.new) }
+        ensures rest { OnOk result (self.new.sums ≡ None → self.old.sums ≡ None) }
         ensures places { OnOk result (self.new.mapping.places ≡ self.old.mapping.places) }
         ensures plugs { OnOk result (self.new.mapping.plugs ≡ remade self.old.mapping.plugs self.old.changes.items) }
         ensures back { OnOk result (reverted self.new.mapping.plugs self.new.back.items ≡ self.old.mapping.plugs) }
@@ -312,6 +386,7 @@ impl MapState {
         requires state { IsMapState search.now self.old }
         requires backward { AreChanges search.now.mapper.lab.now search.now.mapper.wiring.now self.old.back.items }
         ensures state { IsMapState search.now self.new }
+        ensures rest { self.new.sums ≡ None → self.old.sums ≡ None }
         ensures places { self.new.mapping.places ≡ self.old.mapping.places }
         ensures plugs { self.new.mapping.plugs ≡ reverted self.old.mapping.plugs self.old.back.items }
         ensures none { self.new.back.items ≡ [] }
@@ -358,7 +433,7 @@ impl MapState {
         let mapper = search.mapper;
         // for the prover: it tells what every lab keeps
         let _kept = mapper.lab.range();
-        self.is_still_joined(search) && has_room(mapper.free, self.sums.uses())
+        self.is_still_joined(search) && self.has_room(search)
     }
 
     /// Makes the planned changes of the ends on two nodes, where virtual nodes of a node map went from one of them to the other and may stay.
@@ -378,6 +453,7 @@ impl MapState {
         requires stays { KeepsPlaces search.now.mapper.lab.now search.now.mapper.wiring.now self.old.mapping.places first.0 second.0 }
         requires none { self.old.back.items ≡ [] }
         ensures state { OnOk result (IsMapState search.now self.new) }
+        ensures rest { OnOk result (self.new.sums ≡ None → self.old.sums ≡ None) }
         ensures places { OnOk result (self.new.mapping.places ≡ self.old.mapping.places) }
         ensures back { OnOk result (reverted self.new.mapping.plugs self.new.back.items ≡ self.old.mapping.plugs) }
         ensures backward { OnOk result (AreChanges search.now.mapper.lab.now search.now.mapper.wiring.now self.new.back.items) }

@@ -18,6 +18,8 @@
 //! walked      the annealing walk from FirstFit: by the first letter of each machine, and whether it asks by parts more often than by a step
 //! ```
 //!
+//! Behind a word of a search stands `-pack` where it is under the rule that counts nodes, as `walk-pack`; else it is under that of the trunks.
+//!
 //! A row isn't told where FirstFit finds no start of its walk or descent, or where `best` has many node maps. A text that is refused is told by
 //! the line and the kind of its fault.
 #![tactic(auto)]
@@ -30,9 +32,10 @@ mod search;
 mod walk;
 
 use answers::Search;
+use cost_rule::RuleNumber;
 use lab_base::{Kind, Text, number_in};
 use row_words::Untold;
-use search::What;
+use search::{Run, What};
 use std::alloc::Global;
 
 /// The search of a row, if it is of one.
@@ -49,6 +52,14 @@ fn search_named(word: &str) -> Option<What> {
     }
 }
 
+/// The word of a search, and the rule that it is under.
+fn ruled(kind: &str) -> (&str, RuleNumber) {
+    match kind.strip_suffix("-pack") {
+        Some(word) => (word, RuleNumber::Pack),
+        None => (kind, RuleNumber::Trunk),
+    }
+}
+
 /// Adds the output of a row.
 fn tell(
     out: &mut Text,
@@ -61,10 +72,16 @@ fn tell(
     if kind == "ahead" {
         return ahead::tell(out, alloc, times, ptop, text);
     }
-    match search_named(kind) {
-        Some(what) => search::tell(out, alloc, what, times, ptop, text),
-        None => Err(Untold::Word(Kind::Unknown)),
-    }
+    let (word, number) = ruled(kind);
+    let Some(what) = search_named(word) else {
+        return Err(Untold::Word(Kind::Unknown));
+    };
+    let run = Run {
+        what,
+        number,
+        times,
+    };
+    search::tell(out, alloc, run, ptop, text)
 }
 
 /// The output of a row of two words over a lab's text and another one, without the end of its last line.

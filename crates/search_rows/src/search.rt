@@ -1,4 +1,4 @@
-//! Searches under the cost rule of the trunks, whose questions are counted.
+//! Searches under a cost rule, whose questions are counted.
 ghost use Rattle.std.specs.Prelude.{◌≡◌};
 ghost use Rattle.virt_topo.specs.Soundness.{IsSound};
 ghost use Rattle.lab_model.specs.Shapes.{IsFreeOf, IsShaped};
@@ -27,6 +27,14 @@ pub enum What {
     Walk,
     Solve,
     Answers(Search),
+}
+
+/// A row's search, the rule that it is under, and how often it runs.
+#[derive(Clone, Copy)]
+pub struct Run {
+    pub what: What,
+    pub number: RuleNumber,
+    pub times: u64,
 }
 
 /// Adds a word and a cost.
@@ -113,8 +121,7 @@ fn tell_fits(out: &mut Text, alloc: Global, times: u64, problem: &Problem<'_>) -
 fn tell_by(
     out: &mut Text,
     alloc: Global,
-    what: What,
-    times: u64,
+    run: Run,
     problem: &Problem<'_>,
     rule: &StepRule,
     asked: &Cell<Asked>,
@@ -122,7 +129,8 @@ fn tell_by(
     requires free { IsFreeOf problem.now.lab.now problem.now.free.now }
     requires sound { IsSound problem.now.wiring.now }
 {
-    match what {
+    let times = run.times;
+    match run.what {
         What::Fit => Ok(tell_fits(out, alloc, times, problem)?),
         What::Walk => walk::tell(out, alloc, times, problem, rule),
         What::Solve => Ok(tell_solves(out, alloc, times, problem, rule)?),
@@ -130,19 +138,18 @@ fn tell_by(
     }
 }
 
-/// Searches a problem so many times, under the cost rule of the trunks, whose questions are counted.
+/// Searches a problem so many times, under a cost rule whose questions are counted.
 fn tell_counted(
     out: &mut Text,
     alloc: Global,
-    what: What,
-    times: u64,
+    run: Run,
     problem: &Problem<'_>,
     asked: &Rc<Cell<Asked>>,
 ) -> Result<(), Untold>
     requires free { IsFreeOf problem.now.lab.now problem.now.free.now }
     requires sound { IsSound problem.now.wiring.now }
 {
-    let number = RuleNumber::Trunk;
+    let number = run.number;
     let (whole, steps, parts) = (Rc::clone(asked)?, Rc::clone(asked)?, Rc::clone(asked)?);
     let by_number = move |lab: &Lab, wiring: &Wiring, mapping: &Mapping| -> u64
         requires { IsSound wiring.now × IsShaped lab.now wiring.now mapping.now }
@@ -177,15 +184,14 @@ fn tell_counted(
     };
     let (whole, step, parted): (CostFn, StepFn, PartsFn) = (whole, step, parted);
     let rule = StepRule::new(Rule::new(number, whole), step, parted);
-    tell_by(out, alloc, what, times, problem, &rule, asked)
+    tell_by(out, alloc, run, problem, &rule, asked)
 }
 
 /// Searches a problem so many times.
 fn tell_problem(
     out: &mut Text,
     alloc: Global,
-    what: What,
-    times: u64,
+    run: Run,
     problem: &Problem<'_>,
 ) -> Result<(), Untold>
     requires free { IsFreeOf problem.now.lab.now problem.now.free.now }
@@ -194,15 +200,14 @@ fn tell_problem(
     let Ok(asked) = Rc::new(alloc, Cell::new(Asked::never())) else {
         return Err(Untold::Memory);
     };
-    tell_counted(out, alloc, what, times, problem, &asked)
+    tell_counted(out, alloc, run, problem, &asked)
 }
 
 /// Searches the problem of a wiring on a lab so many times.
 fn tell_in(
     out: &mut Text,
     alloc: Global,
-    what: What,
-    times: u64,
+    run: Run,
     lab: &Lab,
     wiring: &Wiring,
 ) -> Result<(), Untold>
@@ -214,7 +219,7 @@ fn tell_in(
         free: &free,
         wiring,
     };
-    let told = tell_problem(out, alloc, what, times, &problem);
+    let told = tell_problem(out, alloc, run, &problem);
     drop(free);
     told
 }
@@ -223,8 +228,7 @@ fn tell_in(
 fn tell_over(
     out: &mut Text,
     alloc: Global,
-    what: What,
-    times: u64,
+    run: Run,
     ptop: &[u8],
     wiring: &Wiring,
 ) -> Result<(), Untold>
@@ -232,7 +236,7 @@ fn tell_over(
 {
     match lab_of(alloc, ptop) {
         Ok(lab) => {
-            let told = tell_in(out, alloc, what, times, &lab, wiring);
+            let told = tell_in(out, alloc, run, &lab, wiring);
             drop(lab);
             told
         }
@@ -244,14 +248,13 @@ fn tell_over(
 pub fn tell(
     out: &mut Text,
     alloc: Global,
-    what: What,
-    times: u64,
+    run: Run,
     ptop: &[u8],
     top: &[u8],
 ) -> Result<(), Untold> {
     match wiring_of(alloc, top) {
         Ok(wiring) => {
-            let told = tell_over(out, alloc, what, times, ptop, &wiring);
+            let told = tell_over(out, alloc, run, ptop, &wiring);
             drop(wiring);
             told
         }

@@ -1,4 +1,4 @@
-use Rattle.std.proofs.Common.{◌≡◌, ◌-◌, ◌+◌, ◌++◌, [], length, take, drop, get_or, List, IfSome}
+use Rattle.std.proofs.Common.{◌≡◌, ◌-◌, ◌+◌, ◌++◌, [], length, take, drop, get_or, List, None, IfSome}
 use Rattle.virt_topo.specs.declared.mapping.Mapping.{Mapping}
 use Rattle.map_state.specs.Chosen.{IsChosen}
 use Rattle.map_anneal.specs.Sought.{choices}
@@ -13,6 +13,7 @@ decreases-explore g l = length l.search.now.candidates.now - l.begun
 abbrev pub invariant-loop-number : goal.invariant-loop-number
 invariant-loop-number g l = record {
   chosen : IsChosen l.search l.chosen;
+  rest : l.chosen.state.sums ≡ None → l.initial.chosen.state.sums ≡ None;
   begun : take l.begun l.chosen.state.mapping.places ≡ take l.begun l.initial.chosen.state.mapping.places;
   priced : IfSome l.kept (λ p. IsPriced (sought_of l.search l.rule.number) p);
   best : (maps : List Mapping) → IsBest (sought_of l.search l.rule.number) maps l.initial.kept

@@ -1,4 +1,6 @@
-use Rattle.std.proofs.Common.{[], Option, refl, subst}
+use Rattle.std.proofs.Common.{◌∙◌, [], Option, refl, sym, ap, subst}
+use Rattle.std.specs.Prelude.{is_some}
+use Rattle.std.proofs.lemmas.Bool.{false≢true}
 use Rattle.map_anneal.specs.declared.priced.Priced.{Priced}
 use Rattle.map_anneal.specs.Searches.{sought_of}
 use Rattle.assign_core.specs.Bests.{IsBest}
@@ -27,3 +29,7 @@ returns-clause-cheapest g c =
     let s = sought_of c.args.search.now c.args.rule.now.number in
     let P : Option Priced → Type 0 = λ best. IsBest s (node_maps s) best in
     subst P c.in-None.is (c.in_ok-found.ensures.best [] refl)
+
+-- the sums are made, and don't rest
+pub explore-explored-requires-clause-resting : goal.explore-explored-requires-clause-resting
+explore-explored-requires-clause-resting g c = λ none. absurd (false≢true (sym (ap is_some none) ∙ c.in_ok-chosen.ensures.summed))

@@ -1,4 +1,4 @@
-use Rattle.std.proofs.Common.{◌≡◌, ◌∙◌, ◌++◌, [], ℕ, List, Bool, true, cond, Some, None, sym, ap, subst}
+use Rattle.std.proofs.Common.{◌≡◌, ◌∙◌, ◌++◌, [], ℕ, List, Bool, true, cond, Some, None, refl, sym, ap, subst}
 use Rattle.std.specs.List.{cons_option}
 use Rattle.std.proofs.lemmas.List.{append-nil}
 use Rattle.virt_topo.specs.declared.mapping.Mapping.{Mapping}
@@ -7,8 +7,17 @@ use Rattle.map_anneal.specs.declared.priced.Priced.{Priced}
 use Rattle.map_anneal.specs.Sought.{mapped, price, IsNodeMap}
 use Rattle.map_anneal.specs.Searches.{sought_of, IsPriced}
 use Rattle.assign_core.specs.Bests.{IsBest, is_below}
-use Rattle.assign_core.proofs.Choosing.{best_kept, best_taken}
+use Rattle.assign_core.proofs.Choosing.{best_bound, best_kept, best_taken}
 use Rattle.assign_core.proofs.exact.weigh.Goals as goal
+
+pub returns-then-is_no_less-clause-best : goal.returns-then-is_no_less-clause-best
+returns-then-is_no_less-clause-best g c = λ maps h.
+    let s = sought_of c.args.search.now c.args.rule.now.number in
+    let places = c.args.chosen.now.state.mapping.places in
+    best_bound s maps c.args.best places (mapped s places) h c.requires.chosen.state.choice (c.is_no_less.ensures c.if-is_no_less.true) refl
+
+pub cost_of-requires-clause-resting : goal.cost_of-requires-clause-resting
+cost_of-requires-clause-resting g c = λ none. c.requires.resting (c.in_ok-is_map.ensures.rest none)
 
 pub returns-then-not-branch-clause-best : goal.returns-then-not-branch-clause-best
 returns-then-not-branch-clause-best g c = λ maps h.

@@ -1,9 +1,9 @@
-use Rattle.std.proofs.Common.{◌≡◌, ◌≤◌, ◌<◌, ◌∙◌, ℕ, List, Bool, length, map, get_or, ap, sym, subst, arith}
+use Rattle.std.proofs.Common.{◌≡◌, ◌≤◌, ◌<◌, ◌∙◌, ℕ, List, Bool, length, map, get_or, ap, sym, subst, arith, [], Some, refl}
 use Rattle.std.specs.Option.{option_map}
-use Rattle.std.proofs.lemmas.List.{length-map, get_or-map}
+use Rattle.std.proofs.lemmas.List.{length-map, get_or-map, drop_all}
 use Rattle.virt_topo.specs.declared.loads.Load.{Load}
 use Rattle.node_maps.specs.declared.ends.End.{End}
-use Rattle.node_maps.specs.NodeMaps.{plugs_in}
+use Rattle.node_maps.specs.NodeMaps.{plugs_in, laid_from}
 use Rattle.node_maps.specs.Indexed.{Adds, AreOrdered, IsNext}
 use Rattle.node_maps.proofs.PlugLaws.{more_all}
 use Rattle.map_state.specs.Nodes.{no_end}
@@ -79,3 +79,27 @@ loop-number-preserved c =
       rising = λ k d le less. more_all (λ (y : Load). y.segment ≤ (at_in es (get_or c.args.listed.now k d)).segment) x.lab.now c.args.places.now e inv.had one.0 one.1
           (inv.rising k d (omega (arith, le)) less) (order_at es c.args.listed.now n k d c.requires.ordered (omega (arith, le)) less);
     }
+
+pub bounds-mapper-number : goal.bounds-mapper-number
+bounds-mapper-number c = c.requires.within c.loop-number.number-index 0 c.loop-number-test.true
+
+pub returns-clause-giving : goal.returns-clause-giving
+returns-clause-giving c = record { had = c.loop-number.invariant.had; marks = c.loop-number.invariant.marks }
+
+pub add-requires-clause-index : goal.add-requires-clause-index
+add-requires-clause-index c = record { each = λ k d lt. c.requires.search.mapper.ifaces.each (get_or c.args.places.now k d).0.0 }
+
+pub add-requires-clause-sized : goal.add-requires-clause-sized
+add-requires-clause-sized c = record { used = c.loop-number.invariant.marks.used_each; last = c.loop-number.invariant.marks.last_each }
+
+pub loop-number-init : goal.loop-number-init
+loop-number-init c = record { had = []; marks = c.requires.idle.marks; rest = refl; rising = λ k d le less j y j_lt. absurd (omega (arith, j_lt)) }
+
+pub returns-clause-given : goal.returns-clause-given
+returns-clause-given c =
+    let x = c.args.search.now.mapper in
+    let listed = c.args.listed.now in
+    let inv = c.loop-number.invariant in
+    ap (option_map (λ laid. plugs_in laid))
+    (sym inv.rest ∙ ap (λ (l : List ℕ). laid_from x.lab.now c.args.places.now (map (at_in x.ends.now) l) inv.had) (drop_all c.loop-number.number-index listed c.loop-number-test.false))
+    ∙ ap Some (sym inv.marks.plugs)

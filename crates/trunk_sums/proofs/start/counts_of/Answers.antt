@@ -1,6 +1,6 @@
-use Rattle.std.proofs.Common.{◌≡◌, ◌<◌, ◌+◌, ◌*◌, ◌∙◌, inl, inr, ℕ, List, length, take, drop, get_or, All, ap, sym, subst, arith}
+use Rattle.std.proofs.Common.{◌≡◌, ◌<◌, ◌+◌, ◌*◌, ◌∙◌, inl, inr, ℕ, List, length, take, drop, get_or, All, ap, sym, subst, arith, refl}
 use Rattle.std.proofs.lemmas.Bool.{cases_lt}
-use Rattle.std.proofs.lemmas.List.Elements.{All-drop}
+use Rattle.std.proofs.lemmas.List.Elements.{All-drop, All-take}
 use Rattle.lab_base.specs.declared.ids.IfaceId.{IfaceId}
 use Rattle.phys_lab.proofs.TrunkCount.{few_trunks}
 use Rattle.virt_topo.specs.declared.wiring.Segment.{Segment}
@@ -9,6 +9,7 @@ use Rattle.virt_topo.proofs.EndLaws.{ends_from}
 use Rattle.trunk_sums.specs.Crossed.{side_of}
 use Rattle.trunk_sums.specs.Summed.{own_plugs}
 use Rattle.trunk_sums.proofs.StartLaws.{next_is}
+use Rattle.virt_topo.proofs.CableLaws.{own_limits, limits_of}
 use Rattle.trunk_sums.proofs.start.counts_of.Goals as goal
 
 pub loop-segment-preserved : goal.loop-segment-preserved
@@ -43,3 +44,44 @@ loop-segment-preserved c =
       plugged = omega (arith, ends, c.len-in-loop-segment.ensures, inv.plugged, c.split_at.ensures.back_len);
       within = subst In (sym c.split_at.ensures.back) (All-drop (λ i. i.0 < length lab.ifaces) c.len-in-loop-segment.result c.loop-segment.rest.now inv.within);
     }
+
+pub split_at-requires : goal.split_at-requires
+split_at-requires c =
+    let w = c.args.wiring.now in
+    let n = c.loop-segment.segment-index in
+    let s = c.segment-item.result in
+    let inv = c.loop-segment.invariant in
+    let lt : n < length w.segments = omega (arith, c.loop-segment-test.true, ap length c.as_slice-segment-items.ensures) in
+    let is : s ≡ get_or w.segments n s = c.segment-item.is ∙ ap (λ (l : List Segment). get_or l n s) c.as_slice-segment-items.ensures in
+    omega (arith, ends_from w.segments n s lt is, inv.plugged, c.len-in-loop-segment.ensures)
+
+pub count_row-requires-clause-room : goal.count_row-requires-clause-room
+count_row-requires-clause-room c =
+    let w = c.args.wiring.now in
+    let n = c.loop-segment.segment-index in
+    let inv = c.loop-segment.invariant in
+    let lt : n < length w.segments = omega (arith, c.loop-segment-test.true, ap length c.as_slice-segment-items.ensures) in
+    omega (arith, lt, inv.place, inv.room)
+
+pub count_row-requires-clause-in_lab : goal.count_row-requires-clause-in_lab
+count_row-requires-clause-in_lab c =
+    let lab = c.args.lab.now in
+    let inv = c.loop-segment.invariant in
+    subst (λ (l : List IfaceId). All (λ i. i.0 < length lab.ifaces) l) (sym c.split_at.ensures.front) (All-take (λ i. i.0 < length lab.ifaces) c.len-in-loop-segment.result c.loop-segment.rest.now inv.within)
+
+pub count_row-requires-clause-few : goal.count_row-requires-clause-few
+count_row-requires-clause-few c =
+    let w = c.args.wiring.now in
+    let n = c.loop-segment.segment-index in
+    let s = c.segment-item.result in
+    let lt : n < length w.segments = omega (arith, c.loop-segment-test.true, ap length c.as_slice-segment-items.ensures) in
+    let is : s ≡ get_or w.segments n s = c.segment-item.is ∙ ap (λ (l : List Segment). get_or l n s) c.as_slice-segment-items.ensures in
+    omega (arith, c.split_at.ensures.front_len, c.len-in-loop-segment.ensures, (own_limits w w.segments n s refl c.requires.limits lt is).few)
+
+pub overflow_add-place : goal.overflow_add-place
+overflow_add-place c =
+    let w = c.args.wiring.now in
+    let n = c.loop-segment.segment-index in
+    let inv = c.loop-segment.invariant in
+    let lt : n < length w.segments = omega (arith, c.loop-segment-test.true, ap length c.as_slice-segment-items.ensures) in
+    omega (arith, lt, inv.place, (limits_of w c.requires.limits).segments)

@@ -1,10 +1,11 @@
-use Rattle.std.proofs.Common.{◌≡◌, ◌<◌, ◌+◌, ◌*◌, ◌∙◌, ◌∷◌, [], inl, inr, ℕ, List, length, get_or, ap, sym, subst, arith}
+use Rattle.std.proofs.Common.{◌≡◌, ◌<◌, ◌+◌, ◌*◌, ◌∙◌, ◌∷◌, [], inl, inr, ℕ, List, length, get_or, refl, ap, sym, subst, arith}
 use Rattle.std.proofs.lemmas.Bool.{cases_lt}
 use Rattle.std.proofs.lemmas.List.{get_or_push, get_or_append_left, get_or_read, length_push}
 use Rattle.virt_topo.specs.declared.wiring.Segment.{Segment}
 use Rattle.trunk_sums.specs.declared.gains.Gains.{Gains}
 use Rattle.trunk_sums.specs.Gains.{IsGain, no_gains}
 use Rattle.trunk_sums.specs.Summed.{no_segment}
+use Rattle.virt_topo.proofs.CableLaws.{own_limits}
 use Rattle.trunk_sums.proofs.start.gains_of.Goals as goal
 
 pub loop-number-preserved : goal.loop-number-preserved
@@ -36,3 +37,12 @@ loop-number-preserved c =
                 (subst (λ (j : ℕ). IsGain (length (get_or w.segments j no_segment).ends) (get_or counts (64 * j + t) 0) t g) (sym here) own))
           ]);
     }
+
+pub gains_in-requires-clause-few : goal.gains_in-requires-clause-few
+gains_in-requires-clause-few c =
+    let w = c.args.wiring.now in
+    let n = c.loop-number.number in
+    let s = c.index-as_slice-number.result in
+    let lt : n < length w.segments = omega (arith, c.loop-number-test.true, c.len-number-end.ensures) in
+    let own = own_limits w w.segments n s refl c.requires.limits lt (c.index-as_slice-number.is ∙ ap (λ (l : List Segment). get_or l n s) c.as_slice.ensures) in
+    own.few

@@ -7,6 +7,7 @@ use Rattle.map_anneal.specs.Sought.{choices, price}
 use Rattle.map_anneal.specs.Searches.{sought_of}
 use Rattle.map_anneal.specs.Weighed.{IsNoLess}
 use Rattle.map_anneal.proofs.Undone.{mapping_is, exchanged_at, exchanged_by, exchanged_back, was_exchanged}
+use Rattle.std.proofs.lemmas.Bool.{false≢true}
 use Rattle.map_anneal.proofs.tried.Tried.exchange_if_cheaper.Goals as goal
 
 pub returns-then-branch-clause-map : goal.returns-then-branch-clause-map
@@ -44,6 +45,7 @@ returns-then-branch-clause-tried g c =
       };
       none = c.in_ok-commit_if_cheaper.ensures.none;
       cost = c.in_ok-commit_if_cheaper.ensures.cost c.if-branch.true;
+      resting = λ none. c.requires.tried.resting (sym c.place_both.ensures.sums ∙ c.in_ok-commit_if_cheaper.ensures.rest none);
     }
 
 pub place_both-requires-clause-first_among : goal.place_both-requires-clause-first_among
@@ -119,6 +121,7 @@ returns-clause-tried g c =
       };
       none = c.place_both-2.ensures.back ∙ c.in_ok-commit_if_cheaper.ensures.none;
       cost = c.place_both-2.ensures.cost ∙ c.in_ok-commit_if_cheaper.ensures.same_cost c.if-branch.false ∙ c.place_both.ensures.cost ∙ c.requires.tried.cost ∙ ap (price s) (sym same);
+      resting = λ none. c.requires.tried.resting (sym c.place_both.ensures.sums ∙ c.in_ok-commit_if_cheaper.ensures.rest (sym c.place_both-2.ensures.sums ∙ none));
     }
 
 pub returns-clause-over : goal.returns-clause-over
@@ -152,3 +155,124 @@ returns-clause-weighed g c = λ is yes.
     let was = was_exchanged x c.args.self.now.state c.place_both.new.self.state.mapping v u c.place_of-one.result.0.0 c.place_of-other.result.0.0 c.requires.tried.state v_lt u_lt there (ap (λ (p : Place). p.0.0) one) (ap (λ (p : Place). p.0.0) other) in
     subst (λ (y : Mapping). IsNoLess s c.args.below y.places) there
     (c.in_ok-commit_if_cheaper.ensures.weighed c.if-branch.false (sym c.place_both-2.ensures.weighed ∙ yes) m.places was)
+
+pub place_both-requires-clause-first : goal.place_both-requires-clause-first
+place_both-requires-clause-first g c =
+    let m = c.args.self.now.state.mapping in
+    let v = c.args.first in
+    let u = c.args.second in
+    let laid = c.requires.tried.state.state in
+    let u_lt : u < length m.places = omega (arith, c.requires.second, laid.choice.one_each) in
+    let v_lt : v < length m.places = omega (arith, c.requires.ordered, u_lt) in
+    omega (arith, v_lt, laid.shaped.places)
+
+pub place_both-requires-clause-second : goal.place_both-requires-clause-second
+place_both-requires-clause-second g c =
+    let m = c.args.self.now.state.mapping in
+    let v = c.args.first in
+    let u = c.args.second in
+    let laid = c.requires.tried.state.state in
+    let u_lt : u < length m.places = omega (arith, c.requires.second, laid.choice.one_each) in
+    let v_lt : v < length m.places = omega (arith, c.requires.ordered, u_lt) in
+    omega (arith, u_lt, laid.shaped.places)
+
+pub place_both-requires-2-clause-first : goal.place_both-requires-2-clause-first
+place_both-requires-2-clause-first g c =
+    let m = c.args.self.now.state.mapping in
+    let v = c.args.first in
+    let u = c.args.second in
+    let laid = c.requires.tried.state.state in
+    let u_lt : u < length m.places = omega (arith, c.requires.second, laid.choice.one_each) in
+    let v_lt : v < length m.places = omega (arith, c.requires.ordered, u_lt) in
+    omega (arith, v_lt, laid.shaped.places)
+
+pub place_both-requires-2-clause-second : goal.place_both-requires-2-clause-second
+place_both-requires-2-clause-second g c =
+    let m = c.args.self.now.state.mapping in
+    let v = c.args.first in
+    let u = c.args.second in
+    let laid = c.requires.tried.state.state in
+    let u_lt : u < length m.places = omega (arith, c.requires.second, laid.choice.one_each) in
+    let v_lt : v < length m.places = omega (arith, c.requires.ordered, u_lt) in
+    omega (arith, u_lt, laid.shaped.places)
+
+pub place_both-requires-clause-state : goal.place_both-requires-clause-state
+place_both-requires-clause-state g c = c.requires.tried.state.state
+
+pub place_both-requires-2-clause-state : goal.place_both-requires-2-clause-state
+place_both-requires-2-clause-state g c = c.in_ok-commit_if_cheaper.ensures.state
+
+pub commit_if_cheaper-requires-clause-state : goal.commit_if_cheaper-requires-clause-state
+commit_if_cheaper-requires-clause-state g c = c.place_both.ensures.state
+
+pub commit_if_cheaper-requires-clause-resting : goal.commit_if_cheaper-requires-clause-resting
+commit_if_cheaper-requires-clause-resting g c = λ none. c.requires.tried.resting (sym c.place_both.ensures.sums ∙ none)
+
+pub commit_if_cheaper-requires-clause-none : goal.commit_if_cheaper-requires-clause-none
+commit_if_cheaper-requires-clause-none g c = c.place_both.ensures.back ∙ c.requires.tried.none
+
+pub commit_if_cheaper-requires-clause-first : goal.commit_if_cheaper-requires-clause-first
+commit_if_cheaper-requires-clause-first g c =
+    let m = c.args.self.now.state.mapping in
+    let v = c.args.first in
+    let u = c.args.second in
+    let laid = c.requires.tried.state.state in
+    let u_lt : u < length m.places = omega (arith, c.requires.second, laid.choice.one_each) in
+    let v_lt : v < length m.places = omega (arith, c.requires.ordered, u_lt) in
+    let one : c.place_of-one.result ≡ place_at m v = c.place_of-one.ensures ∙ ap (λ (l : List Place). get_or l v no_place) c.as_slice.ensures in
+    subst (λ (p : Place). p.0.0 < length c.args.search.now.mapper.lab.now.nodes) (sym one) (laid.shaped.in_nodes v no_place v_lt)
+
+pub commit_if_cheaper-requires-clause-second : goal.commit_if_cheaper-requires-clause-second
+commit_if_cheaper-requires-clause-second g c =
+    let m = c.args.self.now.state.mapping in
+    let v = c.args.first in
+    let u = c.args.second in
+    let laid = c.requires.tried.state.state in
+    let u_lt : u < length m.places = omega (arith, c.requires.second, laid.choice.one_each) in
+    let v_lt : v < length m.places = omega (arith, c.requires.ordered, u_lt) in
+    let other : c.place_of-other.result ≡ place_at m u = c.place_of-other.ensures ∙ ap (λ (l : List Place). get_or l u no_place) c.as_slice-2.ensures in
+    subst (λ (p : Place). p.0.0 < length c.args.search.now.mapper.lab.now.nodes) (sym other) (laid.shaped.in_nodes u no_place u_lt)
+
+pub commit_if_cheaper-requires-clause-first_virt : goal.commit_if_cheaper-requires-clause-first_virt
+commit_if_cheaper-requires-clause-first_virt g c =
+    let m = c.args.self.now.state.mapping in
+    let v = c.args.first in
+    let u = c.args.second in
+    let laid = c.requires.tried.state.state in
+    let u_lt : u < length m.places = omega (arith, c.requires.second, laid.choice.one_each) in
+    let v_lt : v < length m.places = omega (arith, c.requires.ordered, u_lt) in
+    omega (arith, u_lt, laid.shaped.places)
+
+pub commit_if_cheaper-requires-clause-second_virt : goal.commit_if_cheaper-requires-clause-second_virt
+commit_if_cheaper-requires-clause-second_virt g c =
+    let m = c.args.self.now.state.mapping in
+    let v = c.args.first in
+    let u = c.args.second in
+    let laid = c.requires.tried.state.state in
+    let u_lt : u < length m.places = omega (arith, c.requires.second, laid.choice.one_each) in
+    let v_lt : v < length m.places = omega (arith, c.requires.ordered, u_lt) in
+    omega (arith, v_lt, laid.shaped.places)
+
+pub returns-then-branch-clause-below : goal.returns-then-branch-clause-below
+returns-then-branch-clause-below g c = λ is. c.in_ok-commit_if_cheaper.ensures.below c.if-branch.true
+
+pub returns-then-branch-clause-same : goal.returns-then-branch-clause-same
+returns-then-branch-clause-same g c = λ is. absurd (false≢true (sym is))
+
+pub returns-then-branch-clause-same_cost : goal.returns-then-branch-clause-same_cost
+returns-then-branch-clause-same_cost g c = λ is. absurd (false≢true (sym is))
+
+pub returns-then-branch-clause-over : goal.returns-then-branch-clause-over
+returns-then-branch-clause-over g c = λ is m found. absurd (false≢true (sym is))
+
+pub returns-then-branch-clause-weighed : goal.returns-then-branch-clause-weighed
+returns-then-branch-clause-weighed g c = λ is yes. absurd (false≢true (sym is))
+
+pub returns-clause-map : goal.returns-clause-map
+returns-clause-map g c = λ is. absurd (false≢true is)
+
+pub returns-clause-below : goal.returns-clause-below
+returns-clause-below g c = λ is. absurd (false≢true is)
+
+pub returns-clause-same_cost : goal.returns-clause-same_cost
+returns-clause-same_cost g c = λ is. c.place_both-2.ensures.cost ∙ c.in_ok-commit_if_cheaper.ensures.same_cost c.if-branch.false ∙ c.place_both.ensures.cost

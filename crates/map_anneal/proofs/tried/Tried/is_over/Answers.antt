@@ -9,6 +9,8 @@ use Rattle.trunk_sums.specs.Remade.{remade}
 use Rattle.map_state.specs.Planned.{planned}
 use Rattle.map_state.proofs.StateLaws.{planned_changes, planned_plugs}
 use Rattle.map_state.proofs.PlannedLaws.{planned_is}
+use Rattle.lab_model.specs.Shapes.{Place}
+use Rattle.node_maps.proofs.MapLaws.{mapped_is}
 use Rattle.map_anneal.specs.Sought.{price}
 use Rattle.map_anneal.specs.Searches.{sought_of}
 use Rattle.map_anneal.proofs.tried.Tried.is_over.Goals as goal
@@ -49,3 +51,13 @@ returns-in-Some-clause-plugs g c = λ is last was plugs given.
     c.from.ensures ∙ c.ask_parts.ensures ∙ ap (cost_of_parts number) parts ∙ sym (cost_is number lab w (planned b)) ∙ ap (λ (l : List IfaceId). price s (record { places = b.mapping.places; plugs = l })) (sym same) in
     let le : c.args.below ≤ c.from.result = leb-true c.args.below c.from.result is in
     omega (arith, le, cost)
+
+pub returns-in-None-clause-map : goal.returns-in-None-clause-map
+returns-in-None-clause-map g c = λ is last was m found.
+    let x = c.args.search.now.mapper in
+    let s = sought_of c.args.search.now c.args.rule.now.number in
+    let places = c.args.self.now.state.mapping.places in
+    let same = (mapped_is x.lab.now x.free.now x.wiring.now places m found).same_places in
+    let le : c.args.below ≤ c.from-in-None.result = leb-true c.args.below c.from-in-None.result is in
+    let least = c.parts_at_rest.ensures.least c.args.rule.now.number m.plugs in
+    subst (λ (l : List Place). c.args.below ≤ price s (record { places = l; plugs = m.plugs })) (sym same) (omega (arith, le, c.from-in-None.ensures, c.ask_parts-in-None.ensures, least))

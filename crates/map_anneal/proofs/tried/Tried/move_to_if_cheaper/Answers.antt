@@ -1,12 +1,12 @@
-use Rattle.std.proofs.Common.{◌≡◌, ◌<◌, ◌∙◌, ℕ, List, [], length, get_or, Some, Contains, sym, ap, subst, arith, get_or-set_same}
+use Rattle.std.proofs.Common.{◌≡◌, ◌<◌, ◌≤◌, ◌∙◌, ℕ, List, [], length, get_or, Some, Contains, sym, ap, subst, arith, get_or-set_same}
 use Rattle.std.proofs.Math.ListN.{set}
 use Rattle.virt_topo.specs.declared.mapping.Mapping.{Mapping}
 use Rattle.virt_topo.specs.Wirings.{virt_at}
 use Rattle.lab_model.specs.Shapes.{Place}
 use Rattle.lab_model.specs.Rules.{no_place}
-use Rattle.cost_rule.specs.declared.parts.Parts.{Parts}
 use Rattle.cost_rule.specs.Cost.{soft}
 use Rattle.node_maps.specs.NodeMaps.{node_map}
+use Rattle.node_maps.proofs.MapLaws.{mapped_is}
 use Rattle.map_state.proofs.Choices.{choice_moved}
 use Rattle.map_state.specs.Members.{asked_place}
 use Rattle.map_state.specs.Hosted.{placed_at}
@@ -28,6 +28,9 @@ commit_if_cheaper-requires-clause-first g c =
     let within : c.args.node < length places = omega (arith, c.requires.within, choice.one_each) in
     subst (λ (p : Place). p.0.0 < length x.lab.now.nodes) (get_or-set_same places c.args.node c.args.place.now no_place within)
     (place_within x.lab.now x.free.now x.wiring.now (set places c.args.node c.args.place.now) c.args.node changed c.requires.within)
+
+pub commit_if_cheaper-requires-clause-resting : goal.commit_if_cheaper-requires-clause-resting
+commit_if_cheaper-requires-clause-resting g c = λ none. c.requires.tried.resting (sym c.place_told.ensures.sums ∙ none)
 
 pub commit_if_cheaper-requires-clause-second : goal.commit_if_cheaper-requires-clause-second
 commit_if_cheaper-requires-clause-second g c =
@@ -65,6 +68,7 @@ returns-then-branch-clause-tried g c =
       };
       none = c.in_ok-commit_if_cheaper.ensures.none;
       cost = c.in_ok-commit_if_cheaper.ensures.cost c.if-branch.true;
+      resting = λ none. c.requires.tried.resting (sym c.place_told.ensures.sums ∙ c.in_ok-commit_if_cheaper.ensures.rest none);
     }
 
 pub place_known-requires-clause-among : goal.place_known-requires-clause-among
@@ -85,7 +89,7 @@ place_known-requires-clause-soft g c =
     mapping_is c.commit_if_cheaper.new.self.state.mapping (placed_at m v c.args.place.now)
     (c.in_ok-commit_if_cheaper.ensures.places ∙ ap (λ (y : Mapping). y.places) c.place_told.ensures.mapping)
     (c.in_ok-commit_if_cheaper.ensures.plugs c.if-branch.false ∙ ap (λ (y : Mapping). y.plugs) c.place_told.ensures.mapping) in
-    ap (λ (y : Parts). y.soft) c.parts-soft.ensures ∙ sym (ap (soft x.lab.now x.wiring.now) ((λ j. placed_at (left j) v (old j)) ∙ moved_back m v c.args.place.now))
+    c.soft-soft.ensures ∙ sym (ap (soft x.lab.now x.wiring.now) ((λ j. placed_at (left j) v (old j)) ∙ moved_back m v c.args.place.now))
 
 pub place_known-requires-clause-counted : goal.place_known-requires-clause-counted
 place_known-requires-clause-counted g c =
@@ -125,6 +129,7 @@ returns-clause-tried g c =
       };
       none = c.place_known.ensures.back ∙ c.in_ok-commit_if_cheaper.ensures.none;
       cost = c.in_ok-commit_if_cheaper.ensures.same_cost c.if-branch.false ∙ c.requires.tried.cost ∙ ap (price s) (sym same);
+      resting = λ none. c.requires.tried.resting (sym c.place_told.ensures.sums ∙ c.in_ok-commit_if_cheaper.ensures.rest (sym c.place_known.ensures.sums ∙ none));
     }
 
 pub returns-clause-over : goal.returns-clause-over
@@ -163,3 +168,14 @@ returns-then-is_told_over-clause-weighed g c = λ is yes plugs kept.
     let places = set c.args.self.now.state.mapping.places c.args.node c.args.place.now in
     told_over s c.args.below places c.foretell-told.result c.is_told_over.result c.foretell-told.ensures.parts c.is_told_over.ensures.some c.is_told_over.ensures.over c.if-is_told_over.true
     plugs kept.given
+
+pub returns-then-is_least_over-clause-over : goal.returns-then-is_least_over-clause-over
+returns-then-is_least_over-clause-over g c = λ is m found.
+    let x = c.args.search.now.mapper in
+    let s = sought_of c.args.search.now c.args.rule.now.number in
+    let places = set c.args.self.now.state.mapping.places c.args.node c.args.place.now in
+    let same = (mapped_is x.lab.now x.free.now x.wiring.now places m found).same_places in
+    subst (λ (l : List Place). c.args.below ≤ price s (record { places = l; plugs = m.plugs })) (sym same) (c.is_least_over.ensures c.if-is_least_over.true m.plugs)
+
+pub returns-then-is_least_over-clause-weighed : goal.returns-then-is_least_over-clause-weighed
+returns-then-is_least_over-clause-weighed g c = λ is yes plugs kept. c.is_least_over.ensures c.if-is_least_over.true plugs

@@ -76,3 +76,25 @@ returns-clause-over g c = λ is m found.
     (named_is s c.args.self.now.state.mapping c.args.first c.args.second v c.number-number.result
     (c.virt-node.ensures ∙ ap (λ (n : ℕ). c.args.first % n) count) (c.number-number.ensures ∙ ap (λ (n : ℕ). c.args.second % n) own)
     ∙ found)
+
+pub move_if_cheaper-requires-clause-tried : goal.move_if_cheaper-requires-clause-tried
+move_if_cheaper-requires-clause-tried g c = c.requires.tried
+
+pub move_if_cheaper-requires-clause-within : goal.move_if_cheaper-requires-clause-within
+move_if_cheaper-requires-clause-within g c =
+    let search = c.args.search.now in
+    let s = sought_of search c.args.rule.now.number in
+    let count = rooms_count s.lab (choices s) search.rooms.now (search_rooms search c.args.rule.now.number c.requires.search) in
+    omega (arith, c.virt-node.ensures, count, c.requires.some)
+
+pub returns-clause-tried : goal.returns-clause-tried
+returns-clause-tried g c = c.in_ok-yes.ensures.tried
+
+pub returns-clause-below : goal.returns-clause-below
+returns-clause-below g c = c.in_ok-yes.ensures.below
+
+pub returns-clause-same : goal.returns-clause-same
+returns-clause-same g c = c.in_ok-yes.ensures.same
+
+pub returns-clause-same_cost : goal.returns-clause-same_cost
+returns-clause-same_cost g c = c.in_ok-yes.ensures.same_cost

@@ -9,8 +9,8 @@ all_true zero n = refl
 all_true (suc k) zero = refl
 all_true (suc k) (suc n) = all_true k n
 
-pub returns : goal.returns
-returns c =
+pub returns-clause-chosen : goal.returns-clause-chosen
+returns-clause-chosen c =
     let all : c.in_ok-stale.stale.items ≡ replicate (length c.args.search.now.mapper.lab.now.nodes) true =
     c.in_ok-stale.ensures.items_if_clones_equal (λ y e. e) ∙ ap (λ k. replicate k true) (ap length c.nodes.ensures) in
     let stale : (n : ℕ) → slice_index_or c.in_ok-stale.stale.items n true ≡ true = λ n. ap (λ l. get_or l n true) all ∙ all_true _ n in

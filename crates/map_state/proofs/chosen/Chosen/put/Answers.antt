@@ -57,3 +57,28 @@ returns-clause-chosen c =
           subst (λ (y : Mapping). IsServed x y n) (sym c.place_virt.ensures.mapping)
           (served_put x m v c.args.place n c.requires.search all lt second.other (λ e. first.other (e ∙ ap (λ (p : Place). p.0.0) (sym at))) (before.served n first.before));
     }
+
+pub returns-then-is_same-clause-chosen : goal.returns-then-is_same-clause-chosen
+returns-then-is_same-clause-chosen c = c.requires.chosen
+
+pub place_virt-requires-clause-state : goal.place_virt-requires-clause-state
+place_virt-requires-clause-state c = c.requires.chosen.state
+
+pub place_virt-requires-clause-among : goal.place_virt-requires-clause-among
+place_virt-requires-clause-among c = c.requires.among
+
+pub index_mut-requires : goal.index_mut-requires
+index_mut-requires c =
+    let x = c.args.search.now.mapper in
+    let v = c.args.virt in
+    let d : Place = c.index-as_slice-virt.result in
+    let all = c.requires.chosen.state.shaped.places in
+    let lt : v < length c.args.self.now.state.mapping.places = (let virt = c.requires.virt in omega (arith, virt, all)) in
+    let at : d ≡ get_or c.args.self.now.state.mapping.places v d = c.index-as_slice-virt.is ∙ ap (λ (l : List Place). get_or l v d) c.as_slice.ensures in
+    let node = subst (λ (p : Place). p.0.0 < length x.lab.now.nodes) (sym at) (c.requires.chosen.state.shaped.in_nodes v d lt) in
+    let each = c.requires.chosen.one_each in
+    let len = c.args.self.now.stale.ok.0 in
+    omega (arith, node, each, len)
+
+pub returns-clause-places : goal.returns-clause-places
+returns-clause-places c = ap (λ (y : Mapping). y.places) c.place_virt.ensures.mapping

@@ -1,13 +1,17 @@
-use Rattle.std.proofs.Common.{◌≡◌, ◌<◌, ◌+◌, ◌-◌, ◌∙◌, ℕ, List, length, get_or, Bool, cond, eqb, map, refl, ap, sym, arith, ◌==◌}
+use Rattle.std.proofs.Common.{◌≡◌, ◌<◌, ◌+◌, ◌-◌, ◌∙◌, ℕ, List, length, get_or, Bool, cond, eqb, map, refl, ap, sym, arith, ◌==◌, ◌≤◌, inl, inr, subst, get_or-set_same}
 use Rattle.std.specs.List.{remove, count_by}
 use Rattle.std.proofs.Math.ListN.{set}
-use Rattle.std.proofs.lemmas.Bool.{eq-eqb}
-use Rattle.std.proofs.lemmas.List.{length-set, map-set}
+use Rattle.std.proofs.lemmas.Bool.{eq-eqb, cases_eq}
+use Rattle.std.proofs.lemmas.List.{length-set, map-set, get_or-set_other, length-map}
 use Rattle.virt_topo.specs.declared.mapping.Mapping.{Mapping}
 use Rattle.lab_model.specs.Shapes.{Place}
 use Rattle.lab_model.specs.Rules.{no_place}
 use Rattle.cost_rule.proofs.PartLaws.{nodes_small}
 use Rattle.map_state.proofs.HostingLaws.{Went, guest_left, used_left, guests_went, used_went}
+use Rattle.virt_topo.proofs.CableLaws.{sound_limits}
+use Rattle.map_state.specs.Members.{AreMembers}
+use Rattle.map_state.specs.declared.members.Members.{Members}
+use Rattle.map_state.proofs.GuestLaws.{guests_few}
 use Rattle.map_state.proofs.hosting.Hosting.go.Goals as goal
 
 abbrev others_at : Mapping → ℕ → ℕ → ℕ
@@ -120,3 +124,73 @@ returns-clause-nodes c =
       joined_used = c.join.ensures.nodes;
     } in
     used_went (length lab.nodes) m.places v p g h k x.nodes c.leave.new.self.nodes c.join.new.self.nodes lt went
+
+pub node_of-from-requires : goal.node_of-from-requires
+node_of-from-requires c =
+    let virt = c.requires.virt in
+    let all = c.requires.shaped.places in
+    omega (arith, virt, all)
+
+pub leave-requires-clause-within : goal.leave-requires-clause-within
+leave-requires-clause-within c =
+    let virt = c.requires.virt in
+    let all = c.requires.shaped.places in
+    let node = c.requires.shaped.in_nodes c.args.virt no_place (omega (arith, virt, all)) in
+    let from = c.node_of-from.ensures in
+    let each = c.requires.hosting.one_each in
+    omega (arith, node, from, each)
+
+pub join-requires-clause-within : goal.join-requires-clause-within
+join-requires-clause-within c =
+    let len = ap length c.leave.ensures.guests ∙ length-set c.args.self.now.guests.items c.node_of-from.result.0 _ in
+    let node = c.requires.node in
+    let each = c.requires.hosting.one_each in
+    omega (arith, len, node, each)
+
+-- one fewer at a is no more at b
+few_left : (g : List ℕ) (a b : ℕ) → a < length g → get_or g b 0 ≤ 256 → get_or (set g a (get_or g a 0 - 1)) b 0 ≤ 256
+few_left g a b lt few = elim (cases_eq b a) [
+  | inl same ↦ (let at = get_or-set_same g a (get_or g a 0 - 1) 0 lt in subst (λ (k : ℕ). get_or (set g a (get_or g a 0 - 1)) k 0 ≤ 256) (sym same) (let here = subst (λ (k : ℕ). get_or g k 0 ≤ 256) same few in omega (arith, at, here)))
+  | inr apart ↦ (let at = get_or-set_other g a b (get_or g a 0 - 1) 0 apart in omega (arith, at, few))
+]
+
+pub join-requires-clause-few : goal.join-requires-clause-few
+join-requires-clause-few c =
+    let m = c.args.mapping.now in
+    let g = c.args.self.now.guests.items in
+    let virt = c.requires.virt in
+    let all = c.requires.shaped.places in
+    let node = c.requires.shaped.in_nodes c.args.virt no_place (omega (arith, virt, all)) in
+    let from = c.node_of-from.ensures in
+    let each = c.requires.hosting.one_each in
+    let guests = c.requires.hosting.guests c.args.place.0.0 c.requires.node in
+    let few = guests_few m.places c.args.place.0.0 in
+    let limits = (sound_limits c.args.wiring.now c.requires.sound).nodes in
+    subst (λ (l : List ℕ). get_or l c.args.place.0.0 0 ≤ 256) (sym c.leave.ensures.guests)
+    (few_left g c.node_of-from.result.0 c.args.place.0.0 (omega (arith, node, from, each)) (omega (arith, guests, few, limits, all)))
+
+pub index_mut-requires : goal.index_mut-requires
+index_mut-requires c =
+    let m = c.args.mapping.now in
+    let virt = c.requires.virt in
+    let all = c.requires.shaped.places in
+    let len = ap length (ap (λ y. y.items) (c.join.ensures.hosts ∙ c.leave.ensures.hosts) ∙ c.requires.hosting.hosts) ∙ length-map m.places (λ (p : Place). p.0.0) in
+    omega (arith, virt, all, len)
+
+pub go-requires-clause-placed : goal.go-requires-clause-placed
+go-requires-clause-placed c = c.requires.shaped.places
+
+pub go-requires-clause-counted : goal.go-requires-clause-counted
+go-requires-clause-counted c = subst (λ (y : Members). AreMembers c.args.wiring.now c.args.mapping.now y) (sym (c.join.ensures.members ∙ c.leave.ensures.members)) c.requires.hosting.members
+
+pub set_place-requires : goal.set_place-requires
+set_place-requires c =
+    let virt = c.requires.virt in
+    let all = c.requires.shaped.places in
+    omega (arith, virt, all)
+
+pub returns-clause-members : goal.returns-clause-members
+returns-clause-members c = c.go.ensures
+
+pub returns-clause-soft : goal.returns-clause-soft
+returns-clause-soft c = c.join.ensures.soft ∙ c.leave.ensures.soft

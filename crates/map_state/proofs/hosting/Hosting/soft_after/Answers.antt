@@ -1,4 +1,4 @@
-use Rattle.std.proofs.Common.{◌≡◌, ◌<◌, ◌+◌, ◌∙◌, ℕ, List, length, get_or, true, false, ap, sym, arith, get_or-set_same}
+use Rattle.std.proofs.Common.{◌≡◌, ◌<◌, ◌+◌, ◌∙◌, ℕ, List, length, get_or, true, false, ap, sym, arith, get_or-set_same, subst}
 use Rattle.std.proofs.lemmas.List.{get_or_default}
 use Rattle.lab_base.specs.Names.{same_name}
 use Rattle.lab_base.proofs.Bytes.{bytes_same}
@@ -12,6 +12,7 @@ use Rattle.cost_rule.specs.Cost.{soft, soft_at, node_soft}
 use Rattle.cost_rule.proofs.PartLaws.{soft_small}
 use Rattle.map_state.specs.Hosted.{asked_soft, placed_at}
 use Rattle.map_state.proofs.HostingLaws.{soft_after, soft_alike}
+use Rattle.map_state.specs.Members.{asked_place}
 use Rattle.map_state.proofs.hosting.Hosting.soft_after.Goals as goal
 
 -- the old place, as it was read
@@ -95,3 +96,40 @@ returns-clause-soft c =
     let law =
     changed c.args.lab.now c.args.wiring.now m v c.args.place.now old c.last_soft-lost.result c.requires.virt lt is (sym c.eq.ensures ∙ c.if-eq.false) c.last_soft-lost.ensures.is in
     omega (arith, law, c.at-before.ensures.sum, c.at-after.ensures.sum, c.type_soft-gained.ensures.is, c.requires.hosting.soft, c.changed-soft-2.ensures)
+
+pub at-before-requires-clause-softs : goal.at-before-requires-clause-softs
+at-before-requires-clause-softs c = c.requires.softs
+
+pub at-after-requires-clause-softs : goal.at-after-requires-clause-softs
+at-after-requires-clause-softs c = c.requires.softs
+
+pub at-before-requires-clause-node : goal.at-before-requires-clause-node
+at-before-requires-clause-node c =
+    let m = c.args.mapping.now in
+    let v = c.args.virt in
+    let old : Place = c.index-as_slice-virt.result in
+    let all = c.requires.shaped.places in
+    let lt : v < length m.places = omega (arith, c.requires.virt, all) in
+    let is = read m v c.as_slice.result.now old lt c.as_slice.ensures c.index-as_slice-virt.is in
+    subst (λ (q : Place). q.0.0 < length c.args.lab.now.nodes) (sym is) (c.requires.shaped.in_nodes v no_place lt)
+
+pub changed-soft-requires-clause-first : goal.changed-soft-requires-clause-first
+changed-soft-requires-clause-first c = omega (arith, c.at-after.ensures.small)
+
+pub changed-soft-requires-2-clause-first : goal.changed-soft-requires-2-clause-first
+changed-soft-requires-2-clause-first c = omega (arith, c.at-after.ensures.small)
+
+pub returns-then-eq-clause-counted : goal.returns-then-eq-clause-counted
+returns-then-eq-clause-counted c =
+    let m = c.args.mapping.now in
+    let v = c.args.virt in
+    let old : Place = c.index-as_slice-virt.result in
+    let all = c.requires.shaped.places in
+    let lt : v < length m.places = omega (arith, c.requires.virt, all) in
+    let is = read m v c.as_slice.result.now old lt c.as_slice.ensures c.index-as_slice-virt.is in
+    c.counted.ensures ∙ c.requires.hosting.members.own v c.requires.virt
+    ∙ ap (λ (k : List ℕ). asked_place c.args.wiring.now (virt_at c.args.wiring.now v).asks k)
+    (ap (λ (q : Place). q.1) (sym is) ∙ bytes_same old.1 c.args.place.now.1 (sym c.eq.ensures ∙ c.if-eq.true))
+
+pub returns-clause-counted : goal.returns-clause-counted
+returns-clause-counted c = c.virt_place-into.ensures.is

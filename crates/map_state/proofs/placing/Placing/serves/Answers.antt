@@ -1,4 +1,4 @@
-use Rattle.std.proofs.Common.{◌≡◌, ◌<◌, ◌∙◌, ℕ, List, length, map, get_or, filter, Bool, true, false, cond, Option, Some, None, All, refl, ap, sym, subst}
+use Rattle.std.proofs.Common.{◌≡◌, ◌<◌, ◌∙◌, ℕ, List, length, map, get_or, filter, Bool, true, false, cond, Option, Some, None, All, refl, ap, sym, subst, arith}
 use Rattle.std.specs.Prelude.{is_some}
 use Rattle.lab_base.specs.declared.ids.IfaceId.{IfaceId}
 use Rattle.lab_model.specs.Shapes.{Place}
@@ -12,6 +12,7 @@ use Rattle.map_state.specs.Placings.{IsTrying}
 use Rattle.map_state.proofs.StateLaws.{numbers_in, listed_given, listed_ordered}
 use Rattle.map_state.proofs.Served.{is_placed_on, fits_now, served_in_order}
 use Rattle.map_state.proofs.WhereLaws.{numbered_ends}
+use Rattle.std.proofs.lemmas.List.{length_push, length-map}
 use Rattle.map_state.proofs.placing.Placing.serves.Goals as goal
 
 -- the ends on the node of the place
@@ -74,3 +75,18 @@ returns-clause-served c =
     (ap (λ (ps : List Place). plugs_from x.lab.now ps (map (λ k. get_or es k no_end) c.deref-4.result.now)) (sym c.deref-3.ensures.value) ∙ c.in_ok-yes.ensures.given) in
     sym (given_some yes plugs) ∙ ap (λ (o : Option (List IfaceId)). is_some o) (sym given)
     ∙ fits_now x.lab.now x.wiring.now t.earlier places p es t.places c.requires.search.mapper.ends t.served
+
+pub serve_listed-requires-clause-idle : goal.serve_listed-requires-clause-idle
+serve_listed-requires-clause-idle c = c.requires.trying.idle
+
+pub returns-then-are_in_order-clause-idle : goal.returns-then-are_in_order-clause-idle
+returns-then-are_in_order-clause-idle c = c.requires.trying.idle
+
+pub list_ends-requires-clause-hosts : goal.list_ends-requires-clause-hosts
+list_ends-requires-clause-hosts c =
+    let t = c.requires.trying in
+    let count = ap length c.deref.ensures.value ∙ ap length t.hosts ∙ length-map c.args.self.now.places.items (λ (q : Place). q.0.0) ∙ ap length t.places ∙ length_push t.earlier c.args.place.now in
+    omega (arith, count, t.more)
+
+pub returns-clause-idle : goal.returns-clause-idle
+returns-clause-idle c = record { marks = c.clear.ensures c.in_ok-yes.ensures.giving.had c.in_ok-yes.ensures.giving.marks }

@@ -33,3 +33,6 @@ returns-clause-shaped c = planned_shaped c.args.search.now c.args.self.now c.req
 
 pub returns-then-not-are_apart-clause-shaped : goal.returns-then-not-are_apart-clause-shaped
 returns-then-not-are_apart-clause-shaped c = planned_shaped c.args.search.now c.args.self.now c.requires.state c.requires.changes
+
+pub returns-in_default-clause-shaped : goal.returns-in_default-clause-shaped
+returns-in_default-clause-shaped c = planned_shaped c.args.search.now c.args.self.now c.requires.state c.requires.changes

@@ -1,6 +1,4 @@
-use Rattle.std.proofs.Common.{◌∙◌, List, ℕ, length, get_or, nat_le, cond, Some, None, sym, subst}
-use Rattle.std.specs.Prelude.{IsTrue, ◌↔◌}
-use Rattle.lab_model.specs.Feasible.{AllPass}
+use Rattle.std.proofs.Common.{◌∙◌, cond, Some, None, sym}
 use Rattle.map_state.specs.Reverted.{reverted}
 use Rattle.node_maps.proofs.Assembled.{parts_of_map}
 use Rattle.map_state.proofs.StateLaws.{kept_by_room, not_joined}
@@ -23,7 +21,7 @@ returns-then-is_still_joined c = λ last was given.
     let stays = c.requires.stays in
     let old = reverted m.plugs c.args.self.now.back.items in
     let before = parts_of_map lab x.mapper.free.now x.mapper.wiring.now last (record { places = last; plugs = old }) was.mapped in
-    kept_by_room lab x.mapper.free.now x.mapper.wiring.now m c.args._first.0 c.args._second.0 last old c.args.self.now.sums c.has_room.result
+    kept_by_room lab x.mapper.free.now x.mapper.wiring.now m c.args._first.0 c.args._second.0 last old c.has_room.result
     (record {
       kept = c.range-kept.ensures.lab;
       sound = c.requires.search.mapper.sound;
@@ -39,5 +37,4 @@ returns-then-is_still_joined c = λ last was given.
       typed = stays.typed;
       joined = (c.is_still_joined.ensures last before.joined).0 c.if-is_still_joined.true;
     })
-    stays.first stays.second laid.summed
-    (subst (λ (l : List ℕ). IsTrue c.has_room.result ↔ AllPass (length l) (λ t. nat_le (get_or l t 0) (get_or x.mapper.free.now.left t 0))) c.uses.ensures c.has_room.ensures)
+    stays.first stays.second c.has_room.ensures

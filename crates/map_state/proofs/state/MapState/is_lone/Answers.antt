@@ -60,3 +60,34 @@ returns c =
       λ is. record { alone = sym here ∙ c.if-index-ne1.false; empty = sym there ∙ c.if-index-ne0.false; in_order = sym test ∙ is },
       λ lone. test ∙ lone.in_order,
     )
+
+pub index-requires : goal.index-requires
+index-requires c =
+    let laid = c.requires.state in
+    let m = c.args.self.now.mapping in
+    let v = c.args.virt in
+    let d : Place = c.index-as_slice-virt.result in
+    let all = laid.shaped.places in
+    let lt : v < length m.places = (let virt = c.requires.virt in omega (arith, virt, all)) in
+    let node = subst (λ (l : List Place). (get_or l v d).0.0 < length c.args.search.now.mapper.lab.now.nodes) (sym c.as_slice.ensures) (laid.shaped.in_nodes v d lt) in
+    let each = laid.hosting.one_each in
+    omega (arith, node, each)
+
+pub index-requires-2 : goal.index-requires-2
+index-requires-2 c =
+    let node = c.requires.node in
+    let each = c.requires.state.hosting.one_each in
+    omega (arith, node, each)
+
+pub index-requires-3 : goal.index-requires-3
+index-requires-3 c =
+    let virt = c.requires.virt in
+    let each = c.requires.search.table.own.one_each in
+    omega (arith, virt, each)
+
+pub returns-then-index-ne0 : goal.returns-then-index-ne0
+returns-then-index-ne0 c = (
+  λ is. absurd (cc is),
+  λ lone. absurd (c.if-index-ne0.true
+      (guests_there c.args.search.now c.args.self.now c.args.place.now.0.0 c.index-2.result.now c.requires.state c.requires.node c.index-2.ensures ∙ lone.empty)),
+)

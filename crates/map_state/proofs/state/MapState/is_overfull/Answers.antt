@@ -1,7 +1,7 @@
-use Rattle.std.proofs.Common.{◌≡◌, ◌<◌, ◌≤◌, ◌-◌, ◌∙◌, ℕ, List, length, get_or, Bool, cond, eqb, ap, sym, refl, arith}
+use Rattle.std.proofs.Common.{◌≡◌, ◌<◌, ◌≤◌, ◌-◌, ◌∙◌, ℕ, List, length, get_or, Bool, cond, eqb, ap, sym, refl, arith, true, subst}
 use Rattle.std.proofs.lemmas.Bool.{eq-eqb, le-leb, leb-true}
 use Rattle.std.proofs.lemmas.List.{get_or_default}
-use Rattle.lab_model.specs.Shapes.{Place, node_at}
+use Rattle.lab_model.specs.Shapes.{Place, node_at, has_name}
 use Rattle.lab_model.specs.Rules.{no_place, number_of}
 use Rattle.map_state.specs.Hosted.{guests_at}
 use Rattle.map_state.proofs.FullLaws.{overfull_no_map}
@@ -66,3 +66,38 @@ returns-clause-none c = λ is.
     let v = c.args.virt in
     let all = laid.shaped.places in
     overfull_no_map x.lab.now x.free.now x.wiring.now c.args.self.now.mapping v laid.shaped (omega (arith, c.requires.virt, all)) ((returns-clause-overfull c).0 is)
+
+pub index-requires : goal.index-requires
+index-requires c =
+    let laid = c.requires.state in
+    let m = c.args.self.now.mapping in
+    let v = c.args.virt in
+    let all = laid.shaped.places in
+    let lt : v < length m.places = omega (arith, c.requires.virt, all) in
+    let p : Place = c.index-as_slice-virt.result in
+    let place : p ≡ get_or m.places v p = c.index-as_slice-virt.is ∙ ap (λ (l : List Place). get_or l v p) c.as_slice.ensures in
+    let node = subst (λ (y : Place). y.0.0 < length c.args.search.now.mapper.lab.now.nodes) (sym place) (laid.shaped.in_nodes v p lt) in
+    let each = laid.hosting.one_each in
+    omega (arith, node, each)
+
+pub is_taken-requires-clause-node : goal.is_taken-requires-clause-node
+is_taken-requires-clause-node c =
+    let laid = c.requires.state in
+    let m = c.args.self.now.mapping in
+    let v = c.args.virt in
+    let all = laid.shaped.places in
+    let lt : v < length m.places = omega (arith, c.requires.virt, all) in
+    let p : Place = c.index-as_slice-virt.result in
+    let place : p ≡ get_or m.places v p = c.index-as_slice-virt.is ∙ ap (λ (l : List Place). get_or l v p) c.as_slice.ensures in
+    subst (λ (y : Place). y.0.0 < length c.args.search.now.mapper.lab.now.nodes) (sym place) (laid.shaped.in_nodes v p lt)
+
+pub is_taken-requires-clause-typed : goal.is_taken-requires-clause-typed
+is_taken-requires-clause-typed c =
+    let laid = c.requires.state in
+    let m = c.args.self.now.mapping in
+    let v = c.args.virt in
+    let all = laid.shaped.places in
+    let lt : v < length m.places = omega (arith, c.requires.virt, all) in
+    let p : Place = c.index-as_slice-virt.result in
+    let place : p ≡ get_or m.places v p = c.index-as_slice-virt.is ∙ ap (λ (l : List Place). get_or l v p) c.as_slice.ensures in
+    subst (λ (y : Place). has_name (node_at c.args.search.now.mapper.lab.now y.0).types y.1 ≡ true) (sym place) (laid.shaped.of_node v p lt)

@@ -1,6 +1,4 @@
-use Rattle.std.proofs.Common.{◌∙◌, ℕ, List, length, get_or, nat_le, sym, subst}
-use Rattle.std.specs.Prelude.{IsTrue, ◌↔◌}
-use Rattle.lab_model.specs.Feasible.{AllPass}
+use Rattle.std.proofs.Common.{◌∙◌, sym}
 use Rattle.node_maps.proofs.Assembled.{no_map}
 use Rattle.map_state.proofs.StateLaws.{whole_by_room, not_joined, not_typed}
 use Rattle.map_state.proofs.ServedLaws.{all_given}
@@ -30,7 +28,7 @@ returns c =
     let m = c.args.self.now.mapping in
     let laid = c.requires.state in
     let set = c.requires.search in
-    whole_by_room x.mapper.lab.now x.mapper.free.now x.mapper.wiring.now m c.args.self.now.sums c.has_room.result
+    whole_by_room x.mapper.lab.now x.mapper.free.now x.mapper.wiring.now m c.has_room.result
     (record {
       kept = c.range-kept.ensures.lab;
       sound = set.mapper.sound;
@@ -44,5 +42,4 @@ returns c =
       typed = c.has_types.ensures.0 c.if-not-has_types.false;
       joined = c.is_joined.ensures.0 c.if-not-is_joined.false;
     })
-    laid.summed
-    (subst (λ (l : List ℕ). IsTrue c.has_room.result ↔ AllPass (length l) (λ t. nat_le (get_or l t 0) (get_or x.mapper.free.now.left t 0))) c.uses.ensures c.has_room.ensures)
+    c.has_room.ensures

@@ -32,5 +32,6 @@ returns-clause-state c =
       shaped = subst (λ (y : Mapping). IsShaped x.lab.now x.wiring.now y) same c.requires.shaped;
       hosting = c.in_ok-hosting.ensures;
       summed = c.in_ok-sums.ensures;
+      spare = λ none. absurd (cc none);
       idle = record { marks = c.in_ok-given.ensures };
     }

@@ -1,4 +1,4 @@
-use Rattle.std.proofs.Common.{◌<◌, length, sym, subst, arith}
+use Rattle.std.proofs.Common.{◌<◌, length, sym, subst, arith, IfSome}
 use Rattle.virt_topo.specs.declared.mapping.Mapping.{Mapping}
 use Rattle.trunk_sums.specs.Summed.{IsSummed}
 use Rattle.node_maps.specs.NodeMaps.{candidates, IsChoice}
@@ -31,6 +31,7 @@ returns-clause-state c =
       choice = subst (λ (y : Mapping). IsChoice cs y.places) (sym c.place_virt.ensures.mapping) choice;
       shaped = c.place_virt.ensures.shaped;
       hosting = c.place_virt.ensures.hosting;
-      summed = subst (λ (y : Mapping). IsSummed x.lab.now x.wiring.now y.plugs c.args.self.now.sums) (sym c.place_virt.ensures.mapping) c.requires.state.summed;
+      summed = subst (λ (y : Mapping). IfSome c.args.self.now.sums (IsSummed x.lab.now x.wiring.now y.plugs)) (sym c.place_virt.ensures.mapping) c.requires.state.summed;
+      spare = c.requires.state.spare;
       idle = c.requires.state.idle;
     }
