@@ -17,13 +17,13 @@ use Rattle.lab_core.specs.LabSteps.{IsDoneBy, does, has_space, no_memory}
 use Rattle.lab_core.specs.Lists.{Ground, Past, broken, last_reply, listed, more, no_memory as list_no_memory, none, over, refused, wanting}
 use Rattle.lab_core.specs.BatchList.{JudgedNextRun, runs_in_turn}
 use Rattle.lab_judge.specs.Serving.{Serving}
-use Rattle.lab_core.specs.Sessions.{OpenSwap, Setting, After, names_of}
+use Rattle.lab_core.specs.Sessions.{OpenSwap, Setting, After, name_in, names_of}
 use Rattle.lab_core.proofs.Runs.{batch_first, batch_refuses, stand_in}
 use Rattle.complete.specs.Booted.{GoesWell}
 use Rattle.complete.specs.Complete.{is_cut}
 use Rattle.complete.proofs.DoneUncut.{cut_if, does_uncut}
 use Rattle.complete.proofs.GoingWell.{well_behind}
-use Rattle.complete.proofs.JudgedUncut.{cuts, run_uncut}
+use Rattle.complete.proofs.JudgedUncut.{cuts, run_turns as no_turn, run_uncut}
 
 -- the reply to one command, and that to the whole
 abbrev pub told_cut : Option Reply → Bool
@@ -49,7 +49,7 @@ module _ (rule : RuleNumber) (moment : ℕ) where
       → IsDoneBy (JudgedNextRun rule moment promises ends left (λ entry. has_space set entry) s opens) set s opens own after → cut_if after.reply ≡ false
   next_uncut set s opens promises ends [] own rest after well (does j judged d) = absurd judged
   next_uncut set s opens promises ends (run ∷ left) own rest after well (does j judged d) =
-      does_uncut own rest well set s opens after (stand_in run.exp) [] (λ turns. absurd (cc turns)) well j
+      does_uncut own rest well set s opens after (stand_in run.exp) (λ o has turns. absurd (no_turn (name_in o) run.exp turns)) j
       (run_uncut s (is_busy (names_of opens) run.exp) (length opens) rule moment promises ends run (λ entry. has_space set entry) j judged) d
   next_uncut set s opens promises ends left own rest after well (no_memory wants) = ap (λ (x : After). cut_if x.reply) wants.after_is
 

@@ -26,16 +26,23 @@ use Rattle.lab_core.specs.Breaks.{Breaks, StartsBehind, stopped, failed, unanswe
 use Rattle.lab_judge.specs.Judge.{Task, Tell, Append, Swap, BeginOnly, Turn, Finish, Recover}
 use Rattle.lab_core.specs.LabSteps.{AppendEnds, Appends, BeginSteps, Begins, Does, IfSpace, IsAnswered, IsDoneBy, IsOneOf, JudgedBeside, Swaps, broken, does, done_reply, end_reply, has_space, is_told, no_memory, turn_reply, whole}
 use Rattle.lab_core.specs.Recovery.{Recovers, broken_off, settled}
-use Rattle.lab_core.specs.Sessions.{OpenSwap, Setting, After, names_of}
+use Rattle.lab_core.specs.Sessions.{OpenSwap, Setting, After, name_in, names_of}
+use Rattle.lab_core.specs.Tells.{IsTurnOf}
 use Rattle.lab_judge.specs.OpenNames.{is_among, name_of}
 use Rattle.complete.specs.Booted.{GoesWell}
-use Rattle.complete.specs.Complete.{turns_open}
 use Rattle.complete.proofs.JudgedUncut.{cuts, IsJudgedUncut, judged_uncut}
 use Rattle.complete.proofs.GoingWell.{EndsWell, IsSafe, any_front, finish_well, new_safe, settles_well, turn_well, well_behind}
 
--- each swap that is open before a command that turns one went forth alone, and can't be cut by steps that go well
+-- an open swap went forth alone, and isn't cut by these steps, which go well, as do some before them
+pub record IsSafeFor (steps : List Event) (s : LabState) (o : OpenSwap) : Type 0 where
+  pub forth : o.running.leg ≡ Forth
+  pub past : List Event
+  pub well : GoesWell (past ++ steps)
+  pub safe : Moves o.running.swap s → IsSafe past s o.running
+
+-- so is that which the command turns
 abbrev pub AreSafe : List Event → Command → LabState → List OpenSwap → Type 0
-AreSafe past command s opens = turns_open command ≡ true → (o : OpenSwap) → Has opens o → (o.running.leg ≡ Forth) × (Moves o.running.swap s → IsSafe past s o.running)
+AreSafe steps command s opens = (o : OpenSwap) → Has opens o → IsTurnOf (name_in o) command → IsSafeFor steps s o
 
 abbrev pub cut_if : Option Reply → Bool
 cut_if None = false
@@ -100,9 +107,9 @@ module _ (own more : List Event) (well : GoesWell (own ++ more)) where
   begin_ends p s begin move steps behind after (Ended leg) own_is is = absurd is
   begin_ends p s begin move steps behind after (Stuck trouble) own_is is = absurd is
 
-  module _ (set : Setting) (s : LabState) (opens : List OpenSwap) (after : After) (command : Command) (past : List Event) (safe : AreSafe past command s opens) (past_well : GoesWell (past ++ (own ++ more))) where
-    past_front : (steps behind : List Event) → own ≡ steps ++ behind → GoesWell (past ++ (steps ++ (behind ++ more)))
-    past_front steps behind is = subst (λ l. GoesWell (past ++ l)) (ap (λ l. l ++ more) is ∙ append_assoc steps behind more) past_well
+  module _ (set : Setting) (s : LabState) (opens : List OpenSwap) (after : After) (command : Command) (safe : AreSafe (own ++ more) command s opens) where
+    past_front : (past steps behind : List Event) → own ≡ steps ++ behind → GoesWell (past ++ (own ++ more)) → GoesWell (past ++ (steps ++ (behind ++ more)))
+    past_front past steps behind is past_well = subst (λ l. GoesWell (past ++ l)) (ap (λ l. l ++ more) is ∙ append_assoc steps behind more) past_well
 
     if_space : (b : Bool) (Of : Type 0) (n : ℕ) → IfSpace b n s opens Of own after → (Of → cut_if after.reply ≡ false) → cut_if after.reply ≡ false
     if_space true Of n d by = by d
@@ -135,13 +142,13 @@ module _ (own more : List Event) (well : GoesWell (own ++ more)) where
     does_uncut (Ok (BeginOnly exp way)) free d = if_space (has_space set (Begin exp way)) (Begins s opens set.devices exp (Begin exp way) own after) set.length d
         (λ w. told_turn w.swap (opened_swap w.swap) w.outcome _ w.steps w.behind after refl w.own_is (begin_ends w.swap s (Begin exp way) w.move w.steps w.behind after.lab w.outcome w.own_is w.begins) w.answered)
     does_uncut (Ok (Turn exp)) free d =
-        let it = safe free d.one.swap (one_in exp d.one) in
-        told_turn d.one.swap.running.swap d.one.swap.running d.outcome _ d.steps d.behind after it.0 d.own_is
-        (turn_well past s d.one.swap.running (it.1 d.moves) d.steps (d.behind ++ more) d.outcome after.lab d.turn (past_front d.steps d.behind d.own_is)) d.answered
+        let it = safe d.one.swap (one_in exp d.one) (subst (λ n. IsTurnOf n command) (sym d.one.name) free) in
+        told_turn d.one.swap.running.swap d.one.swap.running d.outcome _ d.steps d.behind after it.forth d.own_is
+        (turn_well it.past s d.one.swap.running (it.safe d.moves) d.steps (d.behind ++ more) d.outcome after.lab d.turn (past_front it.past d.steps d.behind d.own_is it.well)) d.answered
     does_uncut (Ok (Finish exp)) free d =
-        let it = safe free d.one.swap (one_in exp d.one) in
-        told_end d.one.swap.running.swap d.one.swap.running d.outcome _ d.steps d.behind after it.0 d.own_is
-        (finish_well past s d.one.swap.running (it.1 d.moves) d.steps (d.behind ++ more) d.outcome after.lab d.finishes (past_front d.steps d.behind d.own_is)) d.answered
+        let it = safe d.one.swap (one_in exp d.one) (subst (λ n. IsTurnOf n command) (sym d.one.name) free) in
+        told_end d.one.swap.running.swap d.one.swap.running d.outcome _ d.steps d.behind after it.forth d.own_is
+        (finish_well it.past s d.one.swap.running (it.safe d.moves) d.steps (d.behind ++ more) d.outcome after.lab d.finishes (past_front it.past d.steps d.behind d.own_is it.well)) d.answered
     does_uncut (Ok Recover) free d = recover_uncut d
 
     pub done_by_uncut : (rule : RuleNumber) → IsDoneBy (JudgedBeside rule command opens s) set s opens own after → cut_if after.reply ≡ false

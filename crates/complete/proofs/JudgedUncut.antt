@@ -1,5 +1,5 @@
 -- No judgement has a reply that tells of a cut course, a failed call of the journal or a stop.
-use Rattle.std.proofs.Common.{◌≡◌, ℕ, Bool, true, false, List, length, Result, Ok, Err, refl, sym, subst, arith}
+use Rattle.std.proofs.Common.{◌≡◌, inl, inr, ℕ, Bool, true, false, List, length, Result, Ok, Err, refl, sym, subst, arith}
 use Rattle.phys_lab.specs.Labs.{Lab}
 use Rattle.virt_topo.specs.declared.experiment.Experiment.{Experiment}
 use Rattle.virt_topo.specs.declared.mapping.Mapping.{Mapping}
@@ -25,20 +25,21 @@ use Rattle.lab_ahead.specs.Ends.{left_for}
 use Rattle.assign_core.specs.declared.whole.Solved.{Solved}
 use Rattle.journal_rec.specs.declared.record.Record.{Record}
 use Rattle.journal_rec.specs.declared.record.Way.{Way}
-use Rattle.complete.specs.Complete.{is_cut, turns_open}
+use Rattle.lab_core.specs.Tells.{IsTurnOf}
+use Rattle.complete.specs.Complete.{is_cut}
 
 -- the reply to one command alone: it tells of no cut course, and isn't that to a batch
 abbrev pub cuts : Reply → Bool
 cuts (replies.Served served) = true
 cuts reply = is_cut reply
 
--- and only `turn` and `finish` turn a swap that was open before
+-- and only `turn` and `finish` turn a swap that was open before, that of the experiment that they name
 abbrev pub IsJudgedUncut : Command → Result Task Reply → Type 0
 IsJudgedUncut command (Err refusal) = cuts refusal ≡ false
 IsJudgedUncut command (Ok (Tell told)) = cuts told ≡ false
 IsJudgedUncut command (Ok (Append entry told)) = cuts told ≡ false
-IsJudgedUncut command (Ok (Turn exp)) = turns_open command ≡ true
-IsJudgedUncut command (Ok (Finish exp)) = turns_open command ≡ true
+IsJudgedUncut command (Ok (Turn exp)) = IsTurnOf exp command
+IsJudgedUncut command (Ok (Finish exp)) = IsTurnOf exp command
 IsJudgedUncut command (Ok task) = Unit {0}
 
 module _ (s : LabState) (busy : Bool) (count : ℕ) where
@@ -74,7 +75,11 @@ module _ (s : LabState) (busy : Bool) (count : ℕ) where
   judged_uncut rule (commands.ModifyWith only exp lines top others map) j is = grind arith
   judged_uncut rule command j is = grind arith
 
--- OF AN EVENT OF `play`, which stands for a change
+-- OF AN EVENT OF `play`, which stands for a change, and turns no swap that was open before
+pub event_turns : (name exp : List ℕ) → IsTurnOf name (stand_in exp) → ⊥
+event_turns name exp (inl is) = cc is
+event_turns name exp (inr is) = cc is
+
 module _ (s : LabState) (busy : Bool) (count : ℕ) (exp : List ℕ) where
   abbrev Uncut : Result Task Reply → Type 0
   Uncut j = IsJudgedUncut (stand_in exp) j
@@ -97,6 +102,10 @@ module _ (s : LabState) (busy : Bool) (count : ℕ) (exp : List ℕ) where
       by (asked shaped has change) = subst Uncut (sym change.is) (change_uncut p.0 p.1 change.wiring (mapping_in p.1.phase))
 
 -- OF A RUN OF A BATCH, which stands for a swap-in
+pub run_turns : (name exp : List ℕ) → IsTurnOf name (stand_in_run exp) → ⊥
+run_turns name exp (inl is) = cc is
+run_turns name exp (inr is) = cc is
+
 module _ (s : LabState) (busy : Bool) (count : ℕ) (exp : List ℕ) where
   -- before its room is asked for
   abbrev IsToldUncut : Result Task Reply → Type 0

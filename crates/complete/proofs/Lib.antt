@@ -16,3 +16,12 @@ mod Runs
 mod StepUncut
 mod WholeRuns
 mod Worked
+mod JudgedBegun
+mod ListSends
+mod PlanSizes
+mod Quiet
+mod RunSends
+mod Sending
+mod StepSends
+mod TurnSends
+mod BatchKeeps

@@ -13,13 +13,13 @@ use Rattle.lab_core.specs.LabSteps.{IsDoneBy, does, no_memory}
 use Rattle.lab_core.specs.Lists.{Ground, Past, broken, last_reply, listed, more, no_memory as list_no_memory, none, over, refused, wanting}
 use Rattle.lab_core.specs.PlayList.{JudgedNext, behind_event, events_in_turn}
 use Rattle.lab_judge.specs.Playing.{Playing}
-use Rattle.lab_core.specs.Sessions.{OpenSwap, Setting, After, names_of}
+use Rattle.lab_core.specs.Sessions.{OpenSwap, Setting, After, name_in, names_of}
 use Rattle.lab_core.proofs.Events.{plays_first, refuse_so, stand_in}
 use Rattle.complete.specs.Booted.{GoesWell}
 use Rattle.complete.specs.Complete.{begins_with}
 use Rattle.complete.proofs.DoneUncut.{cut_if, does_uncut}
 use Rattle.complete.proofs.GoingWell.{well_behind}
-use Rattle.complete.proofs.JudgedUncut.{cuts, event_uncut, idle_uncut}
+use Rattle.complete.proofs.JudgedUncut.{cuts, event_turns as no_turn, event_uncut, idle_uncut}
 
 -- THE TEXT of a reply that tells of no cut course
 calm_text : (reply : Reply) → cuts reply ≡ false → begins_with (codes "failed ") (text_of reply) ≡ false
@@ -38,7 +38,7 @@ module _ (exp : List ℕ) where
   next_uncut : (set : Setting) (s : LabState) (opens : List OpenSwap) (text : Wiring) (left : List LinkEvent) (own rest : List Event) (after : After) → GoesWell (own ++ rest) → IsDoneBy (JudgedNext exp text left s opens) set s opens own after → cut_if after.reply ≡ false
   next_uncut set s opens text [] own rest after well (does j judged d) = absurd judged
   next_uncut set s opens text (event ∷ left) own rest after well (does j judged d) =
-      does_uncut own rest well set s opens after (stand_in exp) [] (λ turns. absurd (cc turns)) well j (event_uncut s (is_busy (names_of opens) exp) (length opens) exp text event j judged) d
+      does_uncut own rest well set s opens after (stand_in exp) (λ o has turns. absurd (no_turn (name_in o) exp turns)) j (event_uncut s (is_busy (names_of opens) exp) (length opens) exp text event j judged) d
   next_uncut set s opens text left own rest after well (no_memory wants) = ap (λ (x : After). cut_if x.reply) wants.after_is
 
   -- the place behind a reply

@@ -27,7 +27,7 @@ use Rattle.lab_core.specs.Sessions.{OpenSwap, Session, Closed, Open, Setting, Af
 use Rattle.lab_core.specs.Tells.{busy_of, opens_of}
 use Rattle.lab_core.proofs.Audited.{kept, opens_stay}
 use Rattle.lab_core.proofs.Others.{Stays, same_stays}
-use Rattle.lab_top.specs.Pieces.{Begun, AreHandedOn, ArePieces, ButForReply, Finds, FirstLab, IsPiece, Leads, StepsFrom, is_closed, session_after, stays_open, steps_of, trace_after}
+use Rattle.lab_top.specs.Pieces.{Piece, Begun, AreHandedOn, ArePieces, ButForReply, Finds, FirstLab, IsPiece, Leads, StepsFrom, is_closed, session_after, stays_open, steps_of, trace_after}
 use Rattle.lab_top.proofs.TurnLaws.{they_differ}
 use Rattle.complete.specs.Booted.{GoesWell}
 use Rattle.complete.specs.OpenCourses.{AreOnLeg, IsCourse, IsOnLeg, forth, steps_in, undo}
@@ -185,9 +185,15 @@ module _ (terms : Terms) (before : List Event) (set : Setting) (s : LabState) (o
   all_continue command none session ok moves differ step = plain_continues command refl none session ok moves differ step
 
 -- a piece from an open session goes from the lab of the moment
-at_open : (from : Session) (early : Bool) (trace : List Event) (s : LabState) (o : OpenSwap) → Has (opens_of from) o → FirstLab (is_closed from && early) trace s → IsLabAt trace s
+pub at_open : (from : Session) (early : Bool) (trace : List Event) (s : LabState) (o : OpenSwap) → Has (opens_of from) o → FirstLab (is_closed from && early) trace s → IsLabAt trace s
 at_open Closed early trace s o has first = absurd has
 at_open (Open opens) early trace s o has first = first
+
+-- and has no opening
+opens_nothing : (drill : Option Drill) (from : Session) (trace : List Event) (piece : Piece) (o : OpenSwap) → Has (opens_of from) o → Finds drill from trace piece → piece.opening ≡ []
+opens_nothing (Some drill) from trace piece o has finds = finds.0
+opens_nothing None Closed trace piece o has finds = absurd has
+opens_nothing None (Open opens) trace piece o has finds = finds
 
 abbrev pub GoingAt : List Begun → List Event → Session → Type 0
 GoingAt made trace session = (s : LabState) → IsLabAt trace s → (o : OpenSwap) → Has (opens_of session) o → IsGoing made s o.running
@@ -261,16 +267,21 @@ module _ (terms : Terms) (once : StandOnce) where
 
   -- where all their steps go well, each swap that one of them turns goes forth, and isn't cut
   pub all_safe : (made rest : List Begun) (trace : List Event) (session : Session) → ArePieces terms trace rest → AreHandedOn session rest → AllDiffer (busy_of session) → GoesWell (steps_in made ++ steps_in rest) → GoingAt made trace session
-      → AllSafe (steps_in made) trace rest
+      → AllSafe trace rest
   all_safe made [] trace session are handed differ well here = tt
   all_safe made (b ∷ rest) trace session are handed differ well here =
       let differ_here = subst (λ (x : Session). AllDiffer (busy_of x)) (sym handed.0) differ in
       let so = subst (λ (x : Session). GoingAt made trace x) (sym handed.0) here in
       let next = steps_push made b in (
-        λ s first turns o has.
+        λ s first o has turns.
             let g = so s (at_open b.piece.from _ trace s o has first) o has in
-            (g.goes_forth (steps_in (b ∷ rest)) well, λ moves. safe_on_course made s o.running g.course),
-        subst (λ l. AllSafe l (trace ++ steps_of b.piece) rest) next
-            (all_safe (made ++ b ∷ []) rest (trace ++ steps_of b.piece) b.piece.to are.1 handed.1 (still_differ terms once made trace b are.0 differ_here so)
-            (subst GoesWell (sym (ap (λ l. l ++ steps_in rest) next ∙ append_assoc (steps_in made) (steps_of b.piece) (steps_in rest))) well) (piece_goes terms once made trace b are.0 differ_here so)),
+            let own_only : steps_of b.piece ≡ b.piece.own = ap (λ l. l ++ b.piece.own) (opens_nothing (drill_of b.piece.command) b.piece.from trace b.piece o has are.0.finds) in
+            record {
+              forth = g.goes_forth (steps_in (b ∷ rest)) well;
+              past = steps_in made;
+              well = subst (λ l. GoesWell (steps_in made ++ (l ++ steps_in rest))) own_only well;
+              safe = λ moves. safe_on_course made s o.running g.course;
+            },
+        all_safe (made ++ b ∷ []) rest (trace ++ steps_of b.piece) b.piece.to are.1 handed.1 (still_differ terms once made trace b are.0 differ_here so)
+            (subst GoesWell (sym (ap (λ l. l ++ steps_in rest) next ∙ append_assoc (steps_in made) (steps_of b.piece) (steps_in rest))) well) (piece_goes terms once made trace b are.0 differ_here so),
       )

@@ -28,42 +28,43 @@ use Rattle.complete.proofs.StepUncut.{lab_step_uncut}
 
 -- ONE PIECE
 abbrev pub SafeAt : List Event → List Event → Piece → Type 0
-SafeAt past trace piece = (s : LabState) → FirstLab (is_early piece) trace s → AreSafe past piece.command s (opens_of piece.from)
+SafeAt more trace piece = (s : LabState) → FirstLab (is_early piece) trace s → AreSafe (piece.own ++ more) piece.command s (opens_of piece.from)
 
-module _ (terms : Terms) (past trace : List Event) (piece : Piece) (more : List Event) (well : GoesWell (past ++ (steps_of piece ++ more))) (done : IsDone terms trace piece) where
+module _ (terms : Terms) (trace : List Event) (piece : Piece) (more : List Event) (well : GoesWell (steps_of piece ++ more)) (done : IsDone terms trace piece) where
   told_so : (s after : LabState) (steps : StepsFrom terms trace piece s after) (reply : Reply) → piece.reply ≡ Some reply → (steps.told ≡ Some reply) × (steps.session ≡ piece.to) × (steps.behind ≡ [])
   told_so s after steps reply is = subst (λ (o : Option Reply). ButForReply o piece.to steps.told steps.session steps.behind) is steps.is_told
 
-  reply_uncut : SafeAt past trace piece → (reply : Reply) → piece.reply ≡ Some reply → is_cut reply ≡ false
+  reply_uncut : SafeAt more trace piece → (reply : Reply) → piece.reply ≡ Some reply → is_cut reply ≡ false
   reply_uncut safe reply is =
       let steps = done.leads.steps in
       let told = told_so done.leads.first done.leads.last steps reply is in
       let as_was : piece.own ++ steps.behind ≡ piece.own = ap (λ b. piece.own ++ b) told.2 ∙ append-nil piece.own in
-      let goes = subst (λ o. GoesWell (past ++ ((piece.opening ++ o) ++ more))) (sym as_was) well in
-      sym (ap told_cut told.0) ∙ lab_step_uncut terms trace _ done.leads.first past piece.opening (piece.own ++ steps.behind) more _ goes piece.command piece.from (safe done.leads.first done.leads.before) steps.step
+      let goes = subst (λ o. GoesWell ((piece.opening ++ o) ++ more)) (sym as_was) well in
+      let safe_here = subst (λ o. AreSafe (o ++ more) piece.command done.leads.first (opens_of piece.from)) (sym as_was) (safe done.leads.first done.leads.before) in
+      sym (ap told_cut told.0) ∙ lab_step_uncut terms trace _ done.leads.first piece.opening (piece.own ++ steps.behind) more _ goes piece.command piece.from safe_here steps.step
 
   opens_well : OpensWell trace piece
   opens_well has =
       let to = done.opened has in
       let opens = to.1.opens in
-      let all = subst GoesWell (append_assoc piece.opening piece.own more ∙ ap (λ l. l ++ (piece.own ++ more)) opens.is ∙ append_assoc opens.reading (opens.moving ++ opens.shifting) (piece.own ++ more)) (well_behind past (steps_of piece ++ more) well) in
+      let all = subst GoesWell (append_assoc piece.opening piece.own more ∙ ap (λ l. l ++ (piece.own ++ more)) opens.is ∙ append_assoc opens.reading (opens.moving ++ opens.shifting) (piece.own ++ more)) well in
       let moved = subst GoesWell (append_assoc opens.moving opens.shifting (piece.own ++ more)) (well_behind opens.reading ((opens.moving ++ opens.shifting) ++ (piece.own ++ more)) all) in
       (done.leads.first, done.leads.before, to.0, to.1, settles_well done.leads.first _ opens.outcomes opens.moving (opens.shifting ++ (piece.own ++ more)) to.0 opens.settles moved)
 
-  pub piece_uncut : SafeAt past trace piece → IsUncut trace piece
+  pub piece_uncut : SafeAt more trace piece → IsUncut trace piece
   piece_uncut safe = record { reply = reply_uncut safe; opening = opens_well }
 
 -- ALL OF THEM
-abbrev pub AllSafe : List Event → List Event → List Begun → Type 0
-AllSafe past trace [] = Unit {0}
-AllSafe past trace (b ∷ made) = SafeAt past trace b.piece × AllSafe (past ++ steps_of b.piece) (trace ++ steps_of b.piece) made
+abbrev pub AllSafe : List Event → List Begun → Type 0
+AllSafe trace [] = Unit {0}
+AllSafe trace (b ∷ made) = SafeAt (steps_in made) trace b.piece × AllSafe (trace ++ steps_of b.piece) made
 
-pub all_uncut : (terms : Terms) (past trace : List Event) (made : List Begun) → ArePieces terms trace made → IsSound the_texts trace → GoesWell (past ++ steps_in made) → AllSafe past trace made → AreUncut trace made
-all_uncut terms past trace [] are sound well safe = tt
-all_uncut terms past trace (b ∷ made) are sound well safe =
+pub all_uncut : (terms : Terms) (trace : List Event) (made : List Begun) → ArePieces terms trace made → IsSound the_texts trace → GoesWell (steps_in made) → AllSafe trace made → AreUncut trace made
+all_uncut terms trace [] are sound well safe = tt
+all_uncut terms trace (b ∷ made) are sound well safe =
     let done = are.0.done sound in (
-      piece_uncut terms past trace b.piece (steps_in made) well done safe.0,
-      all_uncut terms (past ++ steps_of b.piece) (trace ++ steps_of b.piece) made are.1 done.sound (subst GoesWell (sym (append_assoc past (steps_of b.piece) (steps_in made))) well) safe.1,
+      piece_uncut terms trace b.piece (steps_in made) well done safe.0,
+      all_uncut terms (trace ++ steps_of b.piece) made are.1 done.sound (well_behind (steps_of b.piece) (steps_in made) well) safe.1,
     )
 
 -- A SCRIPT ENDS IN ONE WAY
@@ -86,7 +87,7 @@ read_out None old new made script begun = (λ bytes is. (begun bytes is).0, (beg
 read_out (Some seed) old new made script begun = (begun.1, begun.0)
 
 -- THE RUN
-module _ (terms : Terms) (choices : Option Choices) (old new : Outside) (made : List Begun) (t : Told) (is_told : old.plant.told ≡ Some t) (sound : IsSound the_texts t.trace) (safe : AllSafe [] t.trace made) where
+module _ (terms : Terms) (choices : Option Choices) (old new : Outside) (made : List Begun) (t : Told) (is_told : old.plant.told ≡ Some t) (sound : IsSound the_texts t.trace) (safe : AllSafe t.trace made) where
   pub complete : (status : Status) → Ran terms choices old new status made → AllGoesWell choices old status (steps_in made) → ((side : Side) (at : ℕ) → status ≡ JournalBad side at → ⊥) → (status ≡ Memory) ⊎ ((status ≡ Done) × IsComplete choices old new t.trace made)
   complete Memory ran well not_none = inl refl
   complete Done ran well not_none = inr (
@@ -94,7 +95,7 @@ module _ (terms : Terms) (choices : Option Choices) (old new : Outside) (made : 
     record {
       read = read_out (number_of choices) old.left new.left made well.script ran.begun;
       answered = ran.answered;
-      uncut = all_uncut terms [] t.trace made (subst (λ (o : Option Told). IfSome o (λ u. ArePieces terms u.trace made)) is_told ran.pieces) sound well.plant safe;
+      uncut = all_uncut terms t.trace made (subst (λ (o : Option Told). IfSome o (λ u. ArePieces terms u.trace made)) is_told ran.pieces) sound well.plant safe;
       wrote = ran.wrote;
     },
   )

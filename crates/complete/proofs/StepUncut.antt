@@ -19,10 +19,10 @@ use Rattle.complete.proofs.DoneUncut.{AreSafe, cut_if, done_by_uncut, no_break}
 use Rattle.complete.proofs.GoingWell.{well_behind}
 use Rattle.complete.proofs.PlayUncut.{plays_uncut}
 
--- A LAB STEP, where each swap that is open before it can't be cut by steps that go well
-module _ (terms : Terms) (at : List Event) (set : Setting) (s : LabState) (past opening own more : List Event) (after : After) (well : GoesWell (past ++ ((opening ++ own) ++ more))) where
+-- A LAB STEP, where a swap that was open before it and that it turns can't be cut by steps that go well
+module _ (terms : Terms) (at : List Event) (set : Setting) (s : LabState) (opening own more : List Event) (after : After) (well : GoesWell ((opening ++ own) ++ more)) where
   all_well : GoesWell (opening ++ (own ++ more))
-  all_well = subst GoesWell (append_assoc opening own more) (well_behind past ((opening ++ own) ++ more) well)
+  all_well = subst GoesWell (append_assoc opening own more) well
 
   own_well : GoesWell (own ++ more)
   own_well = well_behind opening (own ++ more) all_well
@@ -32,13 +32,12 @@ module _ (terms : Terms) (at : List Event) (set : Setting) (s : LabState) (past 
   by_drill session (is_refused takes none is) = ap (λ (x : After). cut_if x.reply) is
   by_drill session (wants_memory wants) = ap (λ (x : After). cut_if x.reply) wants.after_is
 
-  step_uncut : (command : Command) (drill : Option _) (session : Session) → AreSafe past command s (opens_of session)
+  step_uncut : (command : Command) (drill : Option _) (session : Session) → AreSafe (own ++ more) command s (opens_of session)
       → StepOf drill (DoesBy (JudgedBeside terms.rule command) set) terms s session opening own after → cut_if after.reply ≡ false
   step_uncut command (Some drill) session safe step = by_drill session step.1
-  step_uncut command None Closed safe (opened mid opens d) = done_by_uncut own more own_well set mid [] after command [] (λ turns o none. absurd none) own_well terms.rule d
+  step_uncut command None Closed safe (opened mid opens d) = done_by_uncut own more own_well set mid [] after command (λ o none. absurd none) terms.rule d
   step_uncut command None Closed safe (not_opened b) = no_break opening (own ++ more) after.reply b.breaks all_well
-  step_uncut command None (Open opens) safe step =
-      done_by_uncut own more own_well set s opens after command past safe (subst (λ o. GoesWell (past ++ ((o ++ own) ++ more))) step.0 well) terms.rule step.1
+  step_uncut command None (Open opens) safe step = done_by_uncut own more own_well set s opens after command safe terms.rule step.1
 
   list_uncut : (exp : List ℕ) (from until lines : ℕ) (text : List ℕ) (session : Session) → LabStep terms at set s session (Play exp from until lines text) opening own after → cut_if after.reply ≡ false
   list_uncut exp from until lines text Closed (opened mid opens d) = plays_uncut exp from until text (at ++ opening) set mid [] own more after own_well d
@@ -62,10 +61,10 @@ module _ (terms : Terms) (at : List Event) (set : Setting) (s : LabState) (past 
   audit_uncut Closed (not_opened b) = cut_told after.reply (no_break opening (own ++ more) after.reply b.breaks all_well)
   audit_uncut (Open opens) step = one_audit (world_of (at ++ opening)) s opens step.1
 
-  plain_uncut : (command : Command) → is_unjudged command ≡ false → (session : Session) → AreSafe past command s (opens_of session) → LabStep terms at set s session command opening own after → cut_if after.reply ≡ false
+  plain_uncut : (command : Command) → is_unjudged command ≡ false → (session : Session) → AreSafe (own ++ more) command s (opens_of session) → LabStep terms at set s session command opening own after → cut_if after.reply ≡ false
   plain_uncut command no' session safe step = step_uncut command (drill_of command) session safe (plain_step terms at set s session command opening own after no' step)
 
-  pub lab_step_uncut : (command : Command) (session : Session) → AreSafe past command s (opens_of session) → LabStep terms at set s session command opening own after → told_cut after.reply ≡ false
+  pub lab_step_uncut : (command : Command) (session : Session) → AreSafe (own ++ more) command s (opens_of session) → LabStep terms at set s session command opening own after → told_cut after.reply ≡ false
   lab_step_uncut (Play exp from until lines text) session safe step = cut_told after.reply (list_uncut exp from until lines text session step)
   lab_step_uncut (Batch moment lines text) session safe step = runs_uncut moment lines text session step
   lab_step_uncut Audit session safe step = audit_uncut session step

@@ -1,6 +1,6 @@
 -- Completeness of a run, from what the run says alone.
-use Rattle.std.specs.Prelude.{IfSome}
-use Rattle.std.proofs.Common.{◌≡◌, ◌⊎◌, ℕ, List, [], ◌∷◌, ◌++◌, append_assoc, Option, Some, None, refl, sym, ◌∙◌, ap, subst}
+use Rattle.std.specs.Prelude.{IfSome, is_some}
+use Rattle.std.proofs.Common.{◌≡◌, ◌⊎◌, inl, inr, ℕ, true, List, [], ◌∷◌, ◌++◌, append_assoc, Option, Some, None, refl, sym, ◌∙◌, ap, subst}
 use Rattle.std.proofs.lemmas.List.{append-nil}
 use Rattle.lab_base.specs.Lists.{Has}
 use Rattle.records_model.specs.Labs.{LabState}
@@ -12,15 +12,18 @@ use Rattle.swap_turns.proofs.Stood.{stood_once}
 use Rattle.records_model.specs.Works.{IsSound}
 use Rattle.lab_state.specs.Texts.{the_texts}
 use Rattle.lab_state.proofs.Canonical.{texts_once}
+use Rattle.script_text.specs.Commands.{AtEnd, BadLine, IsScript}
+use Rattle.script_text.specs.declared.command.Command.{Command}
 use Rattle.lab_core.specs.Moments.{IsLabAt}
 use Rattle.lab_core.specs.Sessions.{OpenSwap, Closed, Terms}
 use Rattle.lab_core.specs.Tells.{opens_of}
 use Rattle.lab_top.specs.declared.status.Status.{Status}
-use Rattle.lab_top.specs.declared.status.Status.TheVariants.{Done, Memory}
-use Rattle.lab_top.specs.Pieces.{Begun, ArePieces, IsPiece, session_after, steps_of, trace_after, with_drill_if, with_pieces, planned_of}
-use Rattle.lab_top.specs.Ran.{EndsSo, LastFindsNone, Outside, Ran}
+use Rattle.lab_top.specs.declared.status.Status.TheVariants.{BadScript, Done, JournalBad, Memory, ReadFault, Usage, WriteFault}
+use Rattle.lab_top.specs.Pieces.{Begun, ArePieces, IsPiece, commands_of, session_after, steps_of, trace_after, with_drill_if, with_pieces, planned_of}
+use Rattle.lab_top.specs.Ran.{AreAnswered, BegunBy, BegunCommands, EndsSo, LastFindsNone, Outside, Ran, number_of}
 use Rattle.lab_words.specs.Words.{Choices}
 use Rattle.lab_top.proofs.Pieces.{sides_read}
+use Rattle.lab_top.proofs.Scripts.{script_once}
 use Rattle.complete.specs.Complete.{AllGoesWell, AreStepsOf, IsComplete}
 use Rattle.complete.specs.OpenCourses.{IsCourse, steps_in}
 use Rattle.complete.proofs.Runs.{complete}
@@ -69,6 +72,29 @@ whole terms choices old new status made t steps ran is sound grew well =
     (all_safe terms stand_once [] made t.trace Closed are ran.sessions tt goes.plant (λ s at o none. absurd none))
     status ran goes
     (λ side at bad_is. not_bad terms t.trace made side at are sound (subst (λ x. EndsSo terms t.trace made x new.plant.stopped) bad_is (subst (λ (o : Option Told). IfSome o (λ u. EndsSo terms u.trace made status new.plant.stopped)) is ran.ends)))
+
+-- A SCRIPT WITH A BAD LINE: the run ends there, with all commands before it answered
+pub ends_bad : (terms : Terms) (choices : Option Choices) (old new : Outside) (status : Status) (made : List Begun) (t : Told) (bytes : List ℕ) (commands : List Command) (line : ℕ) → Ran terms choices old new status made → old.plant.told ≡ Some t → IsSound the_texts t.trace
+    → is_some choices ≡ true → number_of choices ≡ None → old.left ≡ Some bytes → IsScript bytes commands (BadLine line) → (status ≡ ReadFault → ⊥) → (status ≡ WriteFault → ⊥)
+    → (status ≡ Memory) ⊎ ((status ≡ BadScript line) × (commands_of made ≡ commands) × AreAnswered made)
+ends_bad terms choices old new status made t bytes commands line ran is sound accepted plain left script source sink = by status ran source sink
+  where
+    has : (status : Status) → Ran terms choices old new status made → BegunCommands bytes new.left (commands_of made) status
+    has status ran = subst (λ (n : Option ℕ). BegunBy n old.left new.left (commands_of made) status) plain ran.begun bytes left
+
+    at_bad : (other : ℕ) → IsScript bytes (commands_of made) (BadLine other) → (commands_of made ≡ commands) × (other ≡ line)
+    at_bad other here = let once = script_once bytes (commands_of made) commands (BadLine other) (BadLine line) here script in (once.0, cc once.1)
+
+    by : (status : Status) → Ran terms choices old new status made → (status ≡ ReadFault → ⊥) → (status ≡ WriteFault → ⊥) → (status ≡ Memory) ⊎ ((status ≡ BadScript line) × (commands_of made ≡ commands) × AreAnswered made)
+    by Memory ran source sink = inl refl
+    by Done ran source sink = absurd (cc (script_once bytes (commands_of made) commands AtEnd (BadLine line) (has Done ran).0 script).1)
+    by ReadFault ran source sink = absurd (source refl)
+    by WriteFault ran source sink = absurd (sink refl)
+    by Usage ran source sink = absurd (cc (sym (ap is_some (ran.usage refl)) ∙ accepted))
+    by (BadScript other) ran source sink = let same = at_bad other (has (BadScript other) ran).0 in inr (ap BadScript same.1, same.0, ran.answered)
+    by (JournalBad side at) ran source sink =
+        absurd (not_bad terms t.trace made side at (subst (λ (o : Option Told). IfSome o (λ u. ArePieces terms u.trace made)) is ran.pieces) sound
+        (subst (λ (o : Option Told). IfSome o (λ u. EndsSo terms u.trace made (JournalBad side at) new.plant.stopped)) is ran.ends))
 
 -- the course of an open swap
 pub course_of : (terms : Terms) (choices : Option Choices) (old new : Outside) (status : Status) (before after : List Begun) (t : Told) (s : LabState) (o : OpenSwap) → Ran terms choices old new status (before ++ after) → old.plant.told ≡ Some t

@@ -6,7 +6,6 @@ use Rattle.records_model.specs.Labs.{LabState}
 use Rattle.recovery.specs.Settle.{is_stuck}
 use Rattle.script_text.specs.Commands.{AtEnd, IsScript}
 use Rattle.script_text.specs.declared.command.Command.{Command}
-use Rattle.script_text.specs.declared.command.Command.TheVariants as commands
 use Rattle.script_text.specs.declared.reply.Reply.{Reply}
 use Rattle.script_text.specs.declared.reply.Reply.TheVariants.{Trouble, Failed, Recovered, Played, Served, Down, Stopped}
 use Rattle.lab_top.specs.declared.status.Status.{Status}
@@ -34,12 +33,6 @@ is_cut (Served served) = served.fails
 is_cut Down = true
 is_cut Stopped = true
 is_cut reply = false
-
--- the command turns a swap that was open before, once or to its end
-abbrev pub turns_open : Command → Bool
-turns_open (commands.Turn exp) = true
-turns_open (commands.Finish exp) = true
-turns_open command = false
 
 -- THE SCRIPT IS WHOLLY IN THE GRAMMAR: that which the source has left
 abbrev pub IsWholeScript : Option ℕ → Option (List ℕ) → Type 0

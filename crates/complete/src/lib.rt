@@ -3,4 +3,6 @@
 
 mod laws;
 
-pub use laws::{completeness, courses, cut_courses, turns_have_room};
+pub use laws::{
+    batches, completeness, courses, cut_courses, few_commands, quiet_commands, turns_have_room,
+};

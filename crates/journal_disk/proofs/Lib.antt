@@ -4,13 +4,13 @@ pub mod Prefixes
 pub mod Walking
 pub mod Parts
 pub mod Placing
-mod Found
-mod Made
+pub mod Found
+pub mod Made
 mod Opening
 pub mod Holding
 mod Shutting
 pub mod CompactSteps
-mod CompactImages
+pub mod CompactImages
 mod CompactMoments
 mod Leaving
 mod EpochLaws

@@ -24,6 +24,7 @@ mod Told
 mod TurnLabs
 mod TurnOne
 mod Unanswered
+pub mod BatchLines
 pub mod Beside
 pub mod BySolution
 pub mod Events
@@ -40,6 +41,8 @@ mod OuterReplies
 pub mod OuterSteps
 mod Parts
 mod Places
+pub mod PlayTells
+mod Refusals
 pub mod Rested
 pub mod Runs
 pub mod Said
@@ -49,3 +52,7 @@ pub mod StepLaws
 pub mod TurnLaws
 pub mod Wanting
 pub mod Sessions
+mod FoundMaps
+mod PromiseNodes
+mod PromiseRuns
+mod Promised

@@ -1,16 +1,20 @@
 -- Two sides are a journal or not, and not both.
-use Rattle.std.proofs.Common.{◌≡◌, ℕ, ◌+◌, ◌*◌, ◌≤◌, List, count_by, take, sym, ap, subst, ◌∙◌, arith}
+use Rattle.std.proofs.Common.{◌≡◌, inr, ℕ, ◌+◌, ◌*◌, ◌≤◌, List, ◌++◌, count_by, take, refl, sym, ap, subst, ◌∙◌, arith}
+use Rattle.plant.specs.Disks.{disk}
+use Rattle.plant.specs.Events.{Event}
 use Rattle.plant.specs.declared.step.Side.{Side}
+use Rattle.plant.specs.declared.step.Side.TheVariants.{A, B}
 use Rattle.journal_rec.specs.declared.record.Record.{Record}
 use Rattle.lab_model.specs.Sound.{is_moving}
-use Rattle.journal_model.specs.Journals.{Records, Live, On, gate_after}
+use Rattle.journal_model.specs.Journals.{Records, Live, New, On, gate_after, head, live}
 use Rattle.journal_model.proofs.Readings.{records_once, records_or_bad, bad_once}
 use Rattle.records_model.specs.Labs.{LabState, LabOf, StopsAt, at_first}
 use Rattle.records_model.proofs.LabLaws.{folds_once, folds_or_stops, stops_once}
 use Rattle.lab_state.specs.Texts.{the_texts}
 use Rattle.lab_state.proofs.Canonical.{texts_once}
-use Rattle.lab_core.specs.Moments.{IsNoJournal, bad, cannot_follow, no_room}
-use Rattle.lab_core.specs.Opening.{IsJournal}
+use Rattle.lab_core.specs.Moments.{IsLiveAt, IsNoJournal, bad, cannot_follow, no_room}
+use Rattle.lab_core.specs.Opening.{HasRead, IsJournal}
+use Rattle.lab_core.proofs.Compacting.{live_once}
 
 lab_as : (a b : List ℕ) (rs ss : List Record) (s : LabState) → Records a b rs → Records a b ss → LabOf the_texts rs s → LabOf the_texts ss s
 lab_as a b rs ss s read other lab = subst (λ l. LabOf the_texts l s) (records_once a b rs ss read other) lab
@@ -44,3 +48,8 @@ one_place a b limit side tide at au (no_room rs s read on lab less there) (canno
     absurd (folds_or_stops the_texts at_first rs s n texts_once lab (stops_as a b ss rs n other_read read stops))
 one_place a b limit side tide at au (no_room rs s read on lab less there) (no_room ss u other_read other_on other_lab other_less other_there) =
     (same_side _ side tide on other_on, there ∙ ap gate_after (records_once a b rs ss read other_read) ∙ sym other_there)
+
+-- A NEW JOURNAL stands on side A, with epoch 1
+pub first_journal : (trace reading : List Event) (limit : ℕ) (start : LabState) (side : Side) (epoch : ℕ) → HasRead trace reading limit start → live (head (disk A trace).reads) (head (disk B trace).reads) ≡ New → IsLiveAt (trace ++ reading) side epoch
+    → (side ≡ A) × (epoch ≡ 1)
+first_journal trace reading limit start side epoch read new is = live_once (trace ++ reading) side A epoch 1 is (read.kept A 1 (inr (new, refl, refl)))

@@ -1,6 +1,7 @@
 -- The steps of reading the journal, and the state behind them, by the journal's opening and by its records.
-use Rattle.std.proofs.Common.{◌≡◌, ◌⊎◌, inl, inr, true, false, ◌∷◌, ℕ, ◌+◌, ◌*◌, ◌<◌, ◌≤◌, ◌^◌, Bool, List, [], ◌++◌, count_by, Option, Some, None, Result, Ok, Err, IfSome, IfOk, refl, sym, ap, subst, ◌∙◌, arith}
+use Rattle.std.proofs.Common.{◌≡◌, ◌⊎◌, inl, inr, true, false, ◌∷◌, ℕ, ◌+◌, ◌*◌, ◌<◌, ◌≤◌, ◌^◌, Bool, List, [], ◌++◌, count_by, Option, Some, None, Result, Ok, Err, IfSome, IfOk, refl, sym, ap, subst, ◌∙◌, append_assoc, arith}
 use Rattle.std.specs.Prelude.{length, nat_lt}
+use Rattle.std.proofs.lemmas.List.{append-nil}
 use Rattle.std.proofs.lemmas.List.Sums.{fold-append}
 use Rattle.std.specs.Global.{Vec}
 use Rattle.plant.specs.Disks.{Disk, disk, disk_after, at_once, ArePossible}
@@ -11,10 +12,10 @@ use Rattle.plant.specs.declared.step.Side.TheVariants.{A, B}
 use Rattle.journal_rec.specs.declared.record.Record.{Record}
 use Rattle.journal_rec.specs.declared.record.Found.{Found}
 use Rattle.lab_model.specs.Sound.{is_moving}
-use Rattle.journal_model.specs.Journals.{Bad, Records, RecordsOf, Live, New, On, Wrong, live, head, gate_after}
+use Rattle.journal_model.specs.Journals.{Bad, Blank, Headed, Records, RecordsOf, Live, New, On, Wrong, live, head, gate_after}
 use Rattle.records_model.specs.Labs.{LabState, LabOf, at_first}
 use Rattle.journal_disk.specs.Before.{IsOpening, are_synced}
-use Rattle.journal_disk.specs.Opening.{AtStart, BothSynced, Far, Making, MayMake, OneSynced, Opens, both_synced, new_journal, far_steps, opening}
+use Rattle.journal_disk.specs.Opening.{AtStart, BothSynced, Far, Making, MayMake, OneSynced, Opens, both_synced, made_steps, making, new_journal, far_steps, opening}
 use Rattle.journal_disk.specs.Epochs.{HasEpoch}
 use Rattle.journal_disk.specs.Standing.{side_of, gate_of, length_of, limit_of, Holds, IsAt, HasAll}
 use Rattle.journal_disk.specs.Walks.{placed}
@@ -30,12 +31,19 @@ use Rattle.lab_state.specs.Texts.{the_texts}
 use Rattle.lab_state.specs.Replays.{records_of}
 use Rattle.lab_state.proofs.Canonical.{texts_once}
 use Rattle.records_model.proofs.LabLaws.{lab_sane}
+use Rattle.journal_model.proofs.Making.{heads_blank}
+use Rattle.journal_model.proofs.Traces.{disk_more}
+use Rattle.journal_rec.specs.Payloads.{le}
+use Rattle.journal_disk.proofs.CompactImages.{head_rests}
+use Rattle.journal_disk.proofs.Found.{rests_made}
 use Rattle.journal_disk.proofs.LastSteps.{opening_last}
+use Rattle.journal_disk.proofs.Made.{made_heads}
+use Rattle.journal_disk.proofs.Prefixes.{missed_images}
 use Rattle.swap_turns.specs.Running.{Stands}
 use Rattle.swap_turns.proofs.MovesAreSwaps.{lab_swaps}
 use Rattle.lab_core.specs.Controller.{Control, Works}
-use Rattle.lab_core.specs.Moments.{AllStandFor, IsLabAt, IsLiveAt, IsNoJournal, bad, cannot_follow, no_room}
-use Rattle.lab_core.specs.Opening.{IsJournal, IsOfJournal, ReadSteps, HasFoundNone, ReadEnds, ReadTold, has_change, is_change}
+use Rattle.lab_core.specs.Moments.{AllStandFor, IsBlankOrFirst, IsFoundAt, IsLabAt, IsLiveAt, IsNoJournal, bad, cannot_follow, no_room}
+use Rattle.lab_core.specs.Opening.{IsJournal, IsOfJournal, MakesFirst, ReadSteps, HasFoundNone, ReadEnds, ReadTold, has_change, is_change}
 use Rattle.lab_core.proofs.Opened.{records_of_placed, are_held}
 
 -- what the journal's opening added
@@ -67,23 +75,43 @@ made_of new limit j items found result is ok holds of =
     at_of None both = tt
     at_of (Some t) both = both.0
 
--- it writes only where both sides are blank
-far_changes : (a b : List ℕ) (far : Far) → MayMake a b far → (has_change (far_steps far) ≡ false) ⊎ (live (head a) (head b) ≡ New)
-far_changes a b AtStart blank = inl refl
-far_changes a b OneSynced blank = inl refl
-far_changes a b BothSynced blank = inl refl
-far_changes a b (Making is_short made) blank = inr blank.0
-
 last_changes : (more : List Event) → (more ≡ []) ⊎ ((side : Side) × (more ≡ Missed side ∷ [])) → has_change more ≡ false
 last_changes more (inl none) = ap has_change none
 last_changes more (inr one) = ap has_change one.1
 
-opening_changes : (trace steps : List Event) (result : Result (Journal × Vec Found) OpenFault) → Opens trace steps result → has_change steps ≡ true → live (head (disk A trace).reads) (head (disk B trace).reads) ≡ New
-opening_changes trace steps result o changed = by (far_changes (disk A trace).reads (disk B trace).reads o.far o.blank)
+-- IT MAKES A NEW JOURNAL only where both sides are blank
+first_of : (a b : List ℕ) → head b ≡ Blank → (head a ≡ Blank) ⊎ (head a ≡ Headed (le 8 1)) → IsBlankOrFirst a b
+first_of a b none (inl blank) = inl (λ i. live (blank i) (none i))
+first_of a b none (inr first) = inr (le 8 1, (λ i. live (first i) (none i)), first, refl)
+
+far_makes : (trace : List Event) (far : Far) → MayMake (disk A trace).reads (disk B trace).reads far → (has_change (far_steps far) ≡ false) ⊎ MakesFirst trace (far_steps far)
+far_makes trace AtStart blank = inl refl
+far_makes trace OneSynced blank = inl refl
+far_makes trace BothSynced blank = inl refl
+far_makes trace (Making is_short made) may =
+    let blank = heads_blank (head (disk A trace).reads) (head (disk B trace).reads) may.0 in
+    inr (record {
+      blank = may.0;
+      first = λ a b possible.
+          let now : ArePossible ((trace ++ both_synced) ++ made_steps is_short made) a b = subst (λ l. ArePossible l a b) (sym (append_assoc trace both_synced (made_steps is_short made))) possible in
+          let heads = made_heads (trace ++ both_synced) (disk A trace).reads (disk B trace).reads is_short made (disk_more A trace both_synced) (disk_more B trace both_synced) blank.0 blank.1 may.1 may.2 a b now in
+          first_of a b heads.0 heads.1;
+    })
+
+opening_changes : (trace steps : List Event) (result : Result (Journal × Vec Found) OpenFault) → Opens trace steps result → has_change steps ≡ true → MakesFirst trace steps
+opening_changes trace steps result o changed = by (far_makes trace o.far o.blank)
   where
-    by : (has_change (far_steps o.far) ≡ false) ⊎ (live (head (disk A trace).reads) (head (disk B trace).reads) ≡ New) → live (head (disk A trace).reads) (head (disk B trace).reads) ≡ New
-    by (inl quiet) = absurd (cc (changed, shows is_change steps (far_steps o.far) o.more false false o.steps_are quiet (last_changes o.more (opening_last result _ _ o.far o.more o.ends))))
-    by (inr new) = new
+    last : (o.more ≡ []) ⊎ ((side : Side) × (o.more ≡ Missed side ∷ []))
+    last = opening_last result _ _ o.far o.more o.ends
+
+    back : (more : List Event) → (more ≡ []) ⊎ ((side : Side) × (more ≡ Missed side ∷ [])) → (a b : List ℕ) → ArePossible (trace ++ (far_steps o.far ++ more)) a b → ArePossible (trace ++ far_steps o.far) a b
+    back more (inl none) a b h = subst (λ l. ArePossible (trace ++ l) a b) (ap (λ l. far_steps o.far ++ l) none ∙ append-nil (far_steps o.far)) h
+    back more (inr one) a b h =
+        missed_images one.0 (trace ++ far_steps o.far) a b (subst (λ l. ArePossible l a b) (sym (append_assoc trace (far_steps o.far) (Missed one.0 ∷ []))) (subst (λ l. ArePossible (trace ++ (far_steps o.far ++ l)) a b) one.1 h))
+
+    by : (has_change (far_steps o.far) ≡ false) ⊎ MakesFirst trace (far_steps o.far) → MakesFirst trace steps
+    by (inl quiet) = absurd (cc (changed, shows is_change steps (far_steps o.far) o.more false false o.steps_are quiet (last_changes o.more last)))
+    by (inr makes) = record { blank = makes.blank; first = λ a b possible. makes.first a b (back o.more last a b (subst (λ l. ArePossible (trace ++ l) a b) o.steps_are possible)) }
 
 -- sides that are blank are a journal without records
 pub blank_journal : (a b : List ℕ) (limit : ℕ) → 18 ≤ limit → live (head a) (head b) ≡ New → IsJournal a b limit
@@ -172,6 +200,22 @@ no_journal trace limit j rs side place at (sided, inr (s, lab, full, there)) =
     let on = reads_on trace (side_of j) rs at.opened in
     no_room rs s on.reads (on.live_is ∙ ap On (sym sided)) lab (omega (arith, at.gate, full)) (there ∙ at.gate)
 
+-- A NEW JOURNAL: side A is live behind it, with epoch 1
+other_made : (trace : List Event) (is_short : Bool) → disk B (trace ++ making is_short) ≡ disk B trace
+other_made trace true = disk_more B trace (making true)
+other_made trace false = disk_more B trace (making false)
+
+made_live : (trace steps : List Event) → steps ≡ opening (disk A trace).reads (disk B trace).reads ++ [] → live (head (disk A trace).reads) (head (disk B trace).reads) ≡ New → IsLiveAt (trace ++ steps) A 1
+made_live trace steps is new =
+    let a = (disk A trace).reads in
+    let short = nat_lt (length a) 18 in
+    let blank = heads_blank (head a) (head (disk B trace).reads) new in
+    let all : steps ≡ both_synced ++ making short = is ∙ ap (λ l. (both_synced ++ new_journal l short) ++ []) new ∙ append-nil (both_synced ++ making short) in
+    let joined : trace ++ steps ≡ (trace ++ both_synced) ++ making short = ap (λ l. trace ++ l) all ∙ sym (append_assoc trace both_synced (making short)) in
+    let here = ap (λ l. head (disk A l).reads) joined ∙ head_rests _ (le 8 1) [] refl (rests_made (trace ++ both_synced) a short (disk_more A trace both_synced) blank.0 refl) in
+    let there : head (disk B (trace ++ steps)).reads ≡ Blank = ap (λ l. head (disk B l).reads) joined ∙ ap (λ (d : Disk). head d.reads) (other_made (trace ++ both_synced) short ∙ disk_more B trace both_synced) ∙ blank.1 in
+    record { live_is = λ i. live (here i) (there i); bytes = le 8 1; headed = here; is = refl }
+
 -- a side that is live stays so where both are only synced
 on_not_new : (l : Live) (side : Side) → l ≡ On side → l ≡ New → ⊥
 on_not_new l side on new = let no : On side ≡ New = sym on ∙ new in cc no
@@ -187,6 +231,11 @@ still_live trace steps side epoch is was =
       is = was.is;
     }
 
+-- so the journal is where the opening finds it
+found_live : (trace steps : List Event) (side : Side) (epoch : ℕ) → steps ≡ opening (disk A trace).reads (disk B trace).reads ++ [] → IsFoundAt trace side epoch → IsLiveAt (trace ++ steps) side epoch
+found_live trace steps side epoch is (inl was) = still_live trace steps side epoch is was
+found_live trace steps side epoch is (inr new) = subst (λ s. IsLiveAt (trace ++ steps) s epoch) (sym new.1) (subst (λ n. IsLiveAt (trace ++ steps) A n) (sym new.2) (made_live trace steps is new.0))
+
 module _ (trace steps : List Event) (limit : ℕ) (least : 18 ≤ limit) (opened : Journal × Vec Found) (rs : List Record) (is : IsOpening trace steps (Ok opened)) (at : IsAt (trace ++ steps) opened.0 rs) (o : ReadSteps trace steps) where
   read_before : Records (disk A trace).reads (disk B trace).reads rs
   read_before = (o.alike.records rs).0 (reads_on (trace ++ steps) (side_of opened.0) rs at.opened).reads
@@ -197,7 +246,7 @@ module _ (trace steps : List Event) (limit : ℕ) (least : 18 ≤ limit) (opened
     synced = ap are_synced (is.opens.steps_are ∙ (λ i. is.opens.ends.0 i ++ is.opens.ends.1 i));
     journal = record { records = rs; lab = c.lab; read = read_before; lab_of = made.1; room = omega (arith, at.gate, made.2) };
     lab = lab_at (trace ++ steps) opened.0 rs c.lab at made.1;
-    kept = λ side epoch was. still_live trace steps side epoch (is.opens.steps_are ∙ (λ i. is.opens.ends.0 i ++ is.opens.ends.1 i)) was;
+    kept = λ side epoch was. found_live trace steps side epoch (is.opens.steps_are ∙ (λ i. is.opens.ends.0 i ++ is.opens.ends.1 i)) was;
   }
   made_ends (Err faults.Plant) made = absurd made
   made_ends (Err faults.Stopped) made = tt

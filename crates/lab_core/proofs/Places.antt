@@ -147,7 +147,7 @@ module _ (own : List Event) (after : After) (reply : Reply) (is : after.reply �
   recover_place s opens (settled outcomes settles told session) = so _ told tt
   recover_place s opens (broken_off part breaks session) = breaks_place own breaks
 
-  does_place : (set : Setting) (s : LabState) (opens : List OpenSwap) (command : Command) (busy : Bool) (count : ℕ) (judgement : Result Task Reply) → IsFit s command busy count judgement → Does set s opens judgement own after → TellsPlace reply after.lab
+  pub does_place : (set : Setting) (s : LabState) (opens : List OpenSwap) (command : Command) (busy : Bool) (count : ℕ) (judgement : Result Task Reply) → IsFit s command busy count judgement → Does set s opens judgement own after → TellsPlace reply after.lab
   does_place set s opens command busy count (Err refusal) inner d = replies_place s opens refusal inner d
   does_place set s opens command busy count (Ok (Tell told)) inner d = replies_place s opens told inner d
   does_place set s opens command busy count (Ok (Append entry told)) inner d = space_place s opens _ set.length (Appends s opens entry told own after) (append_place s opens entry told inner.0) d

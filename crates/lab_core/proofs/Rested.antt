@@ -14,12 +14,12 @@ use Rattle.swap_turns.specs.Settling.{Settles, SettlesOne}
 use Rattle.swap_turns.specs.Swaps.{Swap}
 use Rattle.swap_turns.specs.Turning.{Outcome, More, TurnsBack, Ended, Stuck, Unwritten, Stopped}
 use Rattle.recovery.specs.Due.{is_busy, swaps_of}
-use Rattle.recovery.specs.Settle.{is_stuck}
+use Rattle.recovery.specs.Settle.{is_ended, is_stuck}
 use Rattle.recovery.proofs.Resting.{differ_now, ended_one, left_after, left_first}
 use Rattle.lab_core.specs.Breaks.{Breaks, stopped, failed, unanswered}
 use Rattle.lab_judge.specs.Judge.{◌>>=◌, need_lab, Task, Recover, judged_recover}
 use Rattle.lab_core.specs.LabSteps.{Does, Replies}
-use Rattle.lab_core.specs.Recovery.{Opens, Recovers, settled, broken_off}
+use Rattle.lab_core.specs.Recovery.{HasRecovered, Opens, Recovers, settled, broken_off}
 use Rattle.lab_core.specs.Sessions.{OpenSwap, Session, Closed, Open, Setting, After, names_of, Terms}
 use Rattle.lab_core.specs.Tells.{BeginsAt, busy_of}
 use Rattle.lab_core.proofs.StepLaws.{Was, done, wanting, broke, drilled, none_told}
@@ -57,33 +57,42 @@ names_at : (session : Session) (s mid : LabState) (opening : List Event) → San
 names_at Closed s mid opening sane at = names_after _ at.outcomes s mid at.moving sane.names at.settles
 names_at (Open opens) s mid opening sane at = subst (λ (x : LabState). AllDiffer (map (λ e. e.name) x.experiments)) (sym at) sane.names
 
-module _ (own : List Event) (after : After) (number : ℕ) (is : after.reply ≡ Some (replies.Recovered number 0)) where
+module _ (own : List Event) (after : After) (number stuck : ℕ) (is : after.reply ≡ Some (replies.Recovered number stuck)) where
   broken_tells : {X : Type 0} (events : List Event) → Breaks events after.reply → X
-  broken_tells events (stopped ends told) = let both : Some replies.Stopped ≡ Some (replies.Recovered number 0) = sym told ∙ is in absurd (cc both)
-  broken_tells events (failed no' miss told) = let both : Some replies.Down ≡ Some (replies.Recovered number 0) = sym told ∙ is in absurd (cc both)
-  broken_tells events (unanswered none) = none_told after.reply (replies.Recovered number 0) none is
+  broken_tells events (stopped ends told) = let both : Some replies.Stopped ≡ Some (replies.Recovered number stuck) = sym told ∙ is in absurd (cc both)
+  broken_tells events (failed no' miss told) = let both : Some replies.Down ≡ Some (replies.Recovered number stuck) = sym told ∙ is in absurd (cc both)
+  broken_tells events (unanswered none) = none_told after.reply (replies.Recovered number stuck) none is
 
-  recovers_rest : (mid : LabState) (opens : List OpenSwap) → AllDiffer (map (λ e. e.name) mid.experiments) → Recovers mid opens own after → (e : Experiment) → Has after.lab.experiments e → is_moving e ≡ true → is_busy (names_of opens) e.name ≡ true
-  recovers_rest mid opens differ (settled outcomes settles told session) =
-      let same : Some (replies.Recovered number 0) ≡ Some (replies.Recovered (count_by _ outcomes) (count_by is_stuck outcomes)) = sym is ∙ told in
-      settled_rest mid (names_of opens) outcomes own after.lab differ settles (sym (cc same))
-  recovers_rest mid opens differ (broken_off part breaks session) = broken_tells own breaks
+  recovers_so : (mid : LabState) (opens : List OpenSwap) → Recovers mid opens own after → HasRecovered mid (names_of opens) number stuck own after.lab
+  recovers_so mid opens (settled outcomes settles told session) =
+      let same : Some (replies.Recovered number stuck) ≡ Some (replies.Recovered (count_by is_ended outcomes) (count_by is_stuck outcomes)) = sym is ∙ told in
+      record { outcomes = outcomes; settles = settles; done_are = sym (cc same); stuck_are = sym (cc same) }
+  recovers_so mid opens (broken_off part breaks session) = broken_tells own breaks
 
   judged_is : (mid : LabState) (o : Option Lab) → mid.lab ≡ o → judged_recover mid ≡ (need_lab o >>= λ lab. let r : Result Task Reply = Ok Recover in r)
   judged_is mid o is = ap (λ (x : Option Lab). need_lab x >>= λ lab. let r : Result Task Reply = Ok Recover in r) is
 
-  does_rest : (set : Setting) (mid : LabState) (opens : List OpenSwap) → AllDiffer (map (λ e. e.name) mid.experiments) → (o : Option Lab) → mid.lab ≡ o → Does set mid opens (judged_recover mid) own after
-      → (e : Experiment) → Has after.lab.experiments e → is_moving e ≡ true → is_busy (names_of opens) e.name ≡ true
-  does_rest set mid opens differ None no_lab d =
+  does_so : (set : Setting) (mid : LabState) (opens : List OpenSwap) (o : Option Lab) → mid.lab ≡ o → Does set mid opens (judged_recover mid) own after → HasRecovered mid (names_of opens) number stuck own after.lab
+  does_so set mid opens None no_lab d =
       let told : Replies mid opens replies.NoLab own after = subst (λ (j : Result Task Reply). Does set mid opens j own after) (judged_is mid None no_lab) d in
-      let both : Some replies.NoLab ≡ Some (replies.Recovered number 0) = sym (ap (λ (x : After). x.reply) told.after_is) ∙ is in
+      let both : Some replies.NoLab ≡ Some (replies.Recovered number stuck) = sym (ap (λ (x : After). x.reply) told.after_is) ∙ is in
       absurd (cc both)
-  does_rest set mid opens differ (Some lab) has_lab d = recovers_rest mid opens differ (subst (λ (j : Result Task Reply). Does set mid opens j own after) (judged_is mid (Some lab) has_lab) d)
+  does_so set mid opens (Some lab) has_lab d = recovers_so mid opens (subst (λ (j : Result Task Reply). Does set mid opens j own after) (judged_is mid (Some lab) has_lab) d)
 
-  pub recovered_rest : (judgement : Result Task Reply) (terms : Terms) (set : Setting) (s : LabState) (session : Session) (opening : List Event) → Sane s → Was None judgement terms set s session commands.Recover opening own after
-      → (e : Experiment) → Has after.lab.experiments e → is_moving e ≡ true → is_busy (busy_of session) e.name ≡ true
-  recovered_rest judgement terms set s session opening sane (done mid opens begins judged d) = λ e there moving.
-      subst (λ (l : List OpenSwap). is_busy (names_of l) e.name ≡ true) begins.are (does_rest set mid opens (names_at session s mid opening sane begins.at) mid.lab refl (subst (λ (j : Result Task Reply). Does set mid opens j own after) judged d) e there moving)
-  recovered_rest judgement terms set s session opening sane (wanting mid opens begins wants) = none_told after.reply (replies.Recovered number 0) (ap (λ (x : After). x.reply) wants.after_is) is
-  recovered_rest judgement terms set s session opening sane (broke no' closed breaks) = broken_tells opening breaks.breaks
-  recovered_rest judgement terms set s session opening sane (drilled some none drills) = absurd (cc some)
+  pub recovered_so : (judgement : Result Task Reply) (terms : Terms) (set : Setting) (s : LabState) (session : Session) (opening : List Event) → Was None judgement terms set s session commands.Recover opening own after
+      → (mid : LabState) × BeginsAt session s opening mid × HasRecovered mid (busy_of session) number stuck own after.lab
+  recovered_so judgement terms set s session opening (done mid opens begins judged d) = (
+    mid,
+    begins.at,
+    subst (λ (l : List OpenSwap). HasRecovered mid (names_of l) number stuck own after.lab) begins.are (does_so set mid opens mid.lab refl (subst (λ (j : Result Task Reply). Does set mid opens j own after) judged d)),
+  )
+  recovered_so judgement terms set s session opening (wanting mid opens begins wants) = none_told after.reply (replies.Recovered number stuck) (ap (λ (x : After). x.reply) wants.after_is) is
+  recovered_so judgement terms set s session opening (broke no' closed breaks) = broken_tells opening breaks.breaks
+  recovered_so judgement terms set s session opening (drilled some none drills) = absurd (cc some)
+
+-- where none got stuck
+pub recovered_rest : (own : List Event) (after : After) (number : ℕ) → after.reply ≡ Some (replies.Recovered number 0) → (judgement : Result Task Reply) (terms : Terms) (set : Setting) (s : LabState) (session : Session) (opening : List Event) → Sane s
+    → Was None judgement terms set s session commands.Recover opening own after → (e : Experiment) → Has after.lab.experiments e → is_moving e ≡ true → is_busy (busy_of session) e.name ≡ true
+recovered_rest own after number is judgement terms set s session opening sane step =
+    let so = recovered_so own after number 0 is judgement terms set s session opening step in
+    settled_rest so.0 (busy_of session) so.2.outcomes own after.lab (names_at session s so.0 opening sane so.1) so.2.settles so.2.stuck_are

@@ -19,7 +19,7 @@ use Rattle.swap_turns.specs.Pieces.{has_miss, has_outer}
 use Rattle.lab_state.specs.Packing.{packed_of}
 use Rattle.lab_state.specs.Texts.{the_texts}
 use Rattle.lab_core.specs.Controller.{Control}
-use Rattle.lab_core.specs.Moments.{IsLengthAt, IsLiveAt, AllStandFor}
+use Rattle.lab_core.specs.Moments.{IsFoundAt, IsLengthAt, IsLiveAt, AllStandFor}
 use Rattle.lab_core.specs.Recovery.{Shifts}
 
 -- how long a journal is that has only the records of the lab without its past
@@ -32,12 +32,12 @@ pub record IsToMove (length epoch : ℕ) (s : LabState) : Type 0 where
   pub half : 2 * packed_length s ≤ length
   pub next : epoch < 2 ^ 64 - 1
 
--- WHERE IT IS behind an opening's settling: its length, its live side and the epoch; side and epoch are those before the opening, if the journal wasn't
--- made in that
+-- WHERE IT IS behind an opening's settling: its length, its live side and the epoch; side and epoch are those before the opening, and of a journal that
+-- was made in it they are A and 1
 pub record IsPlaced (before trace : List Event) (length : ℕ) (side : Side) (epoch : ℕ) : Type 0 where
   pub length_is : IsLengthAt trace length
   pub live : IsLiveAt trace side epoch
-  pub kept : (was : Side) (old : ℕ) → IsLiveAt before was old → (side ≡ was) × (epoch ≡ old)
+  pub kept : (was : Side) (old : ℕ) → IsFoundAt before was old → (side ≡ was) × (epoch ≡ old)
 
 -- IT WAS MOVED: the other side is live, with the next epoch, and the journal has only the records of the lab without its past
 pub record HasMoved (trace : List Event) (side : Side) (epoch : ℕ) (s : LabState) : Type 0 where

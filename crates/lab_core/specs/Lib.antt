@@ -1,4 +1,5 @@
 pub mod Auditing
+pub mod BatchLines
 pub mod BatchList
 pub mod Breaks
 pub mod Coming
@@ -13,9 +14,11 @@ pub mod Obey
 pub mod Opening
 pub mod Perform
 pub mod PlayList
+pub mod PlayTells
 pub mod Queues
 pub mod Recovery
 pub mod Said
 pub mod Sessions
 pub mod Swapping
 pub mod Tells
+pub mod Promises

@@ -1,12 +1,12 @@
 -- The lab of a moment, and the states that are no journal.
-use Rattle.std.specs.Prelude.{◌≡◌, ◌+◌, ◌*◌, ◌<◌, ℕ, count_by, List, take}
+use Rattle.std.specs.Prelude.{◌≡◌, ◌⊎◌, ◌+◌, ◌*◌, ◌<◌, ℕ, count_by, List, take}
 use Rattle.plant.specs.Disks.{disk, ArePossible}
 use Rattle.plant.specs.Events.{Event}
 use Rattle.plant.specs.declared.step.Side.{Side}
 use Rattle.plant.specs.declared.step.Side.TheVariants.{A, B}
 use Rattle.journal_rec.specs.declared.record.Record.{Record}
 use Rattle.journal_rec.specs.Payloads.{number}
-use Rattle.journal_model.specs.Journals.{Records, Bad, On, Headed, live, head, gate_after, journal_length}
+use Rattle.journal_model.specs.Journals.{Records, Bad, New, On, Headed, live, head, gate_after, journal_length}
 use Rattle.records_model.specs.Labs.{LabState, LabOf, StopsAt, at_first}
 use Rattle.swap_turns.specs.Working as runs
 use Rattle.lab_model.specs.Sound.{is_moving}
@@ -42,6 +42,14 @@ pub record IsLiveAt (trace : List Event) (side : Side) (epoch : ℕ) : Type 0 wh
   pub bytes : List ℕ
   pub headed : head (disk side trace).reads ≡ Headed bytes
   pub is : epoch ≡ number bytes
+
+-- TWO SIDES WITH A FIRST JOURNAL AT MOST: both are blank, or side A is live, with epoch 1
+abbrev pub IsBlankOrFirst : List ℕ → List ℕ → Type 0
+IsBlankOrFirst a b = (live (head a) (head b) ≡ New) ⊎ ((bytes : List ℕ) × (live (head a) (head b) ≡ On A) × (head a ≡ Headed bytes) × (number bytes ≡ 1))
+
+-- WHERE AN OPENING FINDS THE JOURNAL: that; and where both sides are blank, where it makes a new one, on side A with epoch 1
+abbrev pub IsFoundAt : List Event → Side → ℕ → Type 0
+IsFoundAt trace side epoch = IsLiveAt trace side epoch ⊎ ((live (head (disk A trace).reads) (head (disk B trace).reads) ≡ New) × (side ≡ A) × (epoch ≡ 1))
 
 -- THE THREE STATES THAT ARE NO JOURNAL, with the side and the position that tell them
 pub data IsNoJournal (a b : List ℕ) (limit : ℕ) (side : Side) (at : ℕ) : Type 0 where

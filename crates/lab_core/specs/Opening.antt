@@ -27,7 +27,7 @@ use Rattle.swap_turns.specs.Settling.{Settles, BreaksOff, HasBrokenOff}
 use Rattle.swap_turns.specs.Turning.{Outcome, Unwritten, Stopped as Halted}
 use Rattle.lab_core.specs.Compaction.{IsCompacted, IsPlaced, IsToMove}
 use Rattle.lab_core.specs.Controller.{Control}
-use Rattle.lab_core.specs.Moments.{AllStandFor, IsLabAt, IsLiveAt, IsNoJournal, StandForLab}
+use Rattle.lab_core.specs.Moments.{AllStandFor, IsBlankOrFirst, IsFoundAt, IsLabAt, IsLiveAt, IsNoJournal, StandForLab}
 use Rattle.lab_core.specs.Recovery.{SettlesFirst, Shifts}
 
 -- a step that may change what a side reads as, or what the devices have
@@ -40,13 +40,18 @@ is_change event = false
 abbrev pub has_change : List Event → Bool
 has_change events = list_any is_change events
 
+-- A NEW JOURNAL IS MADE: both sides are blank, and whatever a stop may leave of them behind these steps is blank still, or has the first journal
+pub record MakesFirst (trace steps : List Event) : Type 0 where
+  pub blank : live (head (disk A trace).reads) (head (disk B trace).reads) ≡ New
+  pub first : (a b : List ℕ) → ArePossible (trace ++ steps) a b → IsBlankOrFirst a b
+
 -- WHAT THE PART THAT READS ADDED, whatever came of it
 pub record ReadSteps (trace steps : List Event) : Type 0 where
   -- no device command, no start of a stopped plant, and no reading of a device that failed
   pub no_command : has_command steps ≡ false
   pub no_outer : has_outer steps ≡ false
   -- it writes a new journal, and that only where both sides are blank
-  pub changes : has_change steps ≡ true → live (head (disk A trace).reads) (head (disk B trace).reads) ≡ New
+  pub changes : has_change steps ≡ true → MakesFirst trace steps
   -- at each moment each image has the records, or the bad place, of one that was possible when the call began
   pub before : AreAsBefore trace steps
   -- and once both sides are synced, those of what the sides read as then
@@ -63,13 +68,14 @@ pub record IsJournal (a b : List ℕ) (limit : ℕ) : Type 0 where
   pub lab_of : LabOf the_texts records lab
   pub room : gate_after records + 1 + 39 * count_by is_moving lab.experiments ≤ limit
 
--- THE SIDES WERE READ: no call failed, both are synced, they are a journal, the lab is that of the moment, and a side that was live is so
+-- THE SIDES WERE READ: no call failed, both are synced, they are a journal, and the lab is that of the moment. A side that was live is so; where both
+-- were blank, side A is, with epoch 1
 pub record HasRead (trace reading : List Event) (limit : ℕ) (start : LabState) : Type 0 where
   pub no_miss : has_miss reading ≡ false
   pub synced : are_synced reading ≡ true
   pub journal : IsJournal (disk A trace).reads (disk B trace).reads limit
   pub lab : IsLabAt (trace ++ reading) start
-  pub kept : (side : Side) (epoch : ℕ) → IsLiveAt trace side epoch → IsLiveAt (trace ++ reading) side epoch
+  pub kept : (side : Side) (epoch : ℕ) → IsFoundAt trace side epoch → IsLiveAt (trace ++ reading) side epoch
 
 -- THE SIDES ARE NO JOURNAL. They are synced, and nothing else is done, so neither reads other than before.
 pub record HasFoundNone (trace steps : List Event) (limit : ℕ) (side : Side) (at : ℕ) : Type 0 where

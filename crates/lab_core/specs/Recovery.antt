@@ -76,3 +76,10 @@ pub data Recovers (s : LabState) (opens : List OpenSwap) (own : List Event) (aft
   settled : (outcomes : List Outcome) → Settles s (swaps_of (names_of opens) s.experiments) outcomes own after.lab
       → after.reply ≡ Some (Recovered (count_by is_ended outcomes) (count_by is_stuck outcomes)) → after.session ≡ Open opens → Recovers s opens own after
   broken_off : SettlesSome s (names_of opens) own after.lab → Breaks own after.reply → after.session ≡ Closed → Recovers s opens own after
+
+-- WHAT IT SETTLED, where it is answered with these numbers: so many settlings ended, and so many were cut
+pub record HasRecovered (s : LabState) (busy : List (List ℕ)) (done stuck : ℕ) (own : List Event) (after : LabState) : Type 0 where
+  pub outcomes : List Outcome
+  pub settles : Settles s (swaps_of busy s.experiments) outcomes own after
+  pub done_are : count_by is_ended outcomes ≡ done
+  pub stuck_are : count_by is_stuck outcomes ≡ stuck

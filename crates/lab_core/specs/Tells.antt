@@ -30,7 +30,7 @@ use Rattle.script_text.specs.declared.command.Command.{Command}
 use Rattle.script_text.specs.declared.command.Command.TheVariants as commands
 use Rattle.script_text.specs.declared.reply.FailedEnd.TheVariants as ends
 use Rattle.script_text.specs.declared.reply.Reply.{Reply}
-use Rattle.script_text.specs.declared.reply.Reply.TheVariants.{In, Out as IsOutside, More, Trouble, Failed, FullSwaps, FullJournal, Down, Stopped, Planned, NoDrill}
+use Rattle.script_text.specs.declared.reply.Reply.TheVariants.{Created, Deleted, In, Lab as LabIs, Out as IsOutside, More, Played, Recovered, Served, Trouble, Failed, FullSwaps, FullJournal, Down, Stopped, Planned, NoDrill, Unread}
 use Rattle.lab_base.specs.declared.what.What.TheVariants as whats
 use Rattle.lab_judge.specs.Judge.{Task, Swap, BeginOnly, Turn, Finish, Recover}
 use Rattle.lab_core.specs.LabSteps.{begun_at}
@@ -167,6 +167,24 @@ TellsPlace reply after = Unit {0}
 abbrev pub is_stopped : Reply → Bool
 is_stopped Stopped = true
 is_stopped reply = false
+
+-- THE REPLY IS OF STEPS: it tells of a swap or of settlings, of a record that was appended, of a reading or a call that failed, or of a stop
+abbrev pub is_of_steps : Reply → Bool
+is_of_steps (LabIs switches nodes trunks) = true
+is_of_steps (Created exp nodes segments) = true
+is_of_steps (Deleted exp) = true
+is_of_steps (In exp) = true
+is_of_steps (IsOutside exp) = true
+is_of_steps (More exp) = true
+is_of_steps (Trouble exp what) = true
+is_of_steps (Failed exp end what) = true
+is_of_steps (Recovered done stuck) = true
+is_of_steps (Played exp played last closing blaming) = true
+is_of_steps (Served served) = true
+is_of_steps (Unread name) = true
+is_of_steps Down = true
+is_of_steps Stopped = true
+is_of_steps reply = false
 
 -- the reply is that to a drill
 abbrev pub is_of_drill : Reply → Bool

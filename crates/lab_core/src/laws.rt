@@ -13,9 +13,12 @@ ghost use Rattle.swap_turns.specs.Pieces.{has_command, has_miss, has_restart};
 ghost use Rattle.script_text.specs.Drills.{drill_of};
 ghost use Rattle.script_text.specs.Replies.{closes};
 ghost use Rattle.script_text.specs.declared.command.Command.{Command};
-ghost use Rattle.script_text.specs.declared.command.Command.TheVariants.{Audit, Recover, SwapinWith};
+ghost use Rattle.script_text.specs.declared.command.Command.TheVariants.{Audit, Batch, Play, Recover, SwapinWith};
 ghost use Rattle.script_text.specs.declared.reply.Reply.{Reply};
-ghost use Rattle.script_text.specs.declared.reply.Reply.TheVariants.{In, More, Recovered, Unread as NotRead};
+ghost use Rattle.script_text.specs.declared.reply.Reply.TheVariants.{In, More, Played, Recovered, Served as ServedReply, Unread as NotRead};
+ghost use Rattle.script_text.specs.declared.reply.Served.{Served};
+ghost use Rattle.lab_core.specs.BatchLines.{BatchTells, there_in};
+ghost use Rattle.lab_core.specs.PlayTells.{PlayTells};
 ghost use Rattle.lab_core.specs.Recovery.{EndedIn, Opens};
 ghost use Rattle.swap_turns.specs.Settling.{Settles};
 ghost use Rattle.swap_turns.specs.Swaps.{Swap as Swapped};
@@ -27,13 +30,18 @@ ghost use Rattle.lab_model.specs.Leavings.{SameFor};
 ghost use Rattle.lab_model.specs.Sound.{is_moving};
 ghost use Rattle.virt_topo.specs.declared.experiment.Experiment.{Experiment};
 ghost use Rattle.lab_core.specs.LabSteps.{LabStepBy};
-ghost use Rattle.lab_core.specs.Commands.{LabStep, is_about};
+ghost use Rattle.lab_core.specs.BatchList.{runs_in_turn};
+ghost use Rattle.lab_core.specs.Commands.{LabStep, Serves, is_about};
+ghost use Rattle.lab_core.specs.Lists.{Ground, Past};
+ghost use Rattle.lab_core.specs.Promises.{AreKept, KeepsPromises, some_stuck};
+ghost use Rattle.lab_judge.specs.Serving.{JudgedBatch, Serving};
 ghost use Rattle.lab_judge.specs.Judge.{is_unjudged, Task, Tell, Swap, BeginOnly, Turn, Finish, Judged, is_searched};
 ghost use Rattle.lab_core.specs.Moments.{StandForLab};
 ghost use Rattle.lab_core.specs.Said.{IsAsSaid};
 ghost use Rattle.lab_core.specs.Sessions.{OpenSwap, Session, Open, Terms, Setting, After, names_of, open_at};
-ghost use Rattle.lab_core.specs.Tells.{AllMove, BeginsAt, GoesIn, Hinders, IsAtRest, IsFeasibleFor, IsInBy, IsNoSwap, IsOpened, IsTurn, IsTurnOf, TellsBroken, TellsEnd, TellsLab, SendsOne, busy_of, is_stopped, opens_of, settles, taken_reply};
+ghost use Rattle.lab_core.specs.Tells.{AllMove, BeginsAt, GoesIn, Hinders, IsAtRest, IsFeasibleFor, IsInBy, IsNoSwap, IsOpened, IsTurn, IsTurnOf, TellsBroken, TellsEnd, TellsLab, SendsOne, busy_of, is_of_steps, is_stopped, opens_of, settles, taken_reply};
 
+use lab_ahead::left_nodes;
 use swap_mgr::MAX_OPEN;
 
 /// A command without a search has one judgement, and a lab step is by one of its command's judgements.
@@ -41,6 +49,10 @@ use swap_mgr::MAX_OPEN;
 /// failed or stopped and a reply is told, to one reply and one lab. The reply to a swap tells where its experiment is.
 /// Experiments of other names stay, whatever the reply. Where the command settles what moves, those that don't move stay, and those with an open
 /// swap. A drill leaves all as it was. The plant stopped exactly where the reply is `stopped`.
+/// The lines of a reply to `batch` are replies to the first runs of its text, in order, and where one tells that an experiment is, there it is behind
+/// the whole, if no later run is of it. The reply to `play` tells how many events were answered `in`, and the reply that ended it, if one did; then the
+/// experiment is where that tells, and in still where that is a refusal; else it is in.
+/// A reply that is of no steps comes without any of the command's own: a refusal, and a reply that only tells something, of lists and audits too.
 /// A reading of a device failed exactly where the reply is `unread` with its name. Only an audit is answered so, and that reading is its one step.
 pub fn lab_steps()
     ensures judged_once { (rule : RuleNumber) (s : LabState) (busy : Bool) (count : ℕ) (command : Command) (a b : Result Task Reply)
@@ -77,6 +89,17 @@ pub fn lab_steps()
     ensures stops { (terms : Terms) (at : List Event) (set : Setting) (s : LabState) (session : Session) (command : Command) (opening own : List Event)
         (after : After) (reply : Reply)
         → LabStep terms at set s session command opening own after → after.reply ≡ Some reply → has_restart (opening ++ own) ≡ is_stopped reply }
+    ensures served { (terms : Terms) (at : List Event) (set : Setting) (s : LabState) (session : Session) (moment lines : ℕ) (text : List ℕ)
+        (opening own : List Event) (after : After) (served : Served)
+        → LabStep terms at set s session (Batch moment lines text) opening own after → after.reply ≡ Some (ServedReply served)
+        → BatchTells (there_in after.lab) text served }
+    ensures played { (terms : Terms) (at : List Event) (set : Setting) (s : LabState) (session : Session) (exp name : List ℕ) (from until lines count : ℕ)
+        (text last : List ℕ) (closing blaming : Bool) (opening own : List Event) (after : After)
+        → LabStep terms at set s session (Play exp from until lines text) opening own after → after.reply ≡ Some (Played name count last closing blaming)
+        → PlayTells (there_in after.lab) exp (Played name count last closing blaming) }
+    ensures idle { (terms : Terms) (at : List Event) (set : Setting) (s : LabState) (session : Session) (command : Command) (opening own : List Event)
+        (after : After) (reply : Reply)
+        → LabStep terms at set s session command opening own after → after.reply ≡ Some reply → is_of_steps reply ≡ false → own ≡ [] }
     ensures unread { (terms : Terms) (at : List Event) (set : Setting) (s : LabState) (session : Session) (command : Command) (opening own : List Event)
         (after : After) (reply : Reply) (name : List ℕ)
         → LabStep terms at set s session command opening own after → after.reply ≡ Some reply
@@ -178,3 +201,19 @@ pub fn labs_are_kept()
     ensures { (trace : List Event) (a b : List ℕ) (s : LabState) → IsSound the_texts trace → ArePossible trace a b → StandForLab a b s
         → IsAsSaid (world_of trace) s }
 {}
+
+/// A batch keeps its promises. Behind one that is served, with no experiment stuck by it, all promises fit at each moment of each of its runs that are
+/// in, on what is left then: the nodes that no experiment claims, and those of its own runs that have ended.
+/// So a later run of a batch breaks no promise that an earlier one was tested by. What a search finds is shaped for the lab and the wiring.
+pub fn promises()
+    ensures served { (rule : RuleNumber) (moment : ℕ) (text : List ℕ) (trace : List Event) (set : Setting) (s : LabState) (opens to : List OpenSwap)
+        (own : List Event) (after : After) (served : Served)
+        → Sane s → Serves rule moment text trace set opens s own after → after.reply ≡ Some (ServedReply served) → after.session ≡ Open to
+        → KeepsPromises moment text served after.lab }
+    ensures part { (rule : RuleNumber) (moment : ℕ) (text : List ℕ) (base : Ground) (trace : List Event) (s u : LabState) (opens to : List OpenSwap)
+        (start at : Serving) (own : List Event)
+        → Sane s → JudgedBatch s text (Ok start) → Past (runs_in_turn rule moment) base trace start s opens own at u to → some_stuck at.told ≡ false
+        → AreKept u moment at.promises at.ends }
+{
+    left_nodes();
+}

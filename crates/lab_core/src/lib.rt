@@ -18,5 +18,5 @@ mod swapping;
 pub use controller::Controller;
 pub use fault::CoreFault;
 pub use journal_disk::OpenFault;
-pub use laws::{lab_steps, labs_are_kept, open_swaps, recoveries, solutions};
+pub use laws::{lab_steps, labs_are_kept, open_swaps, promises, recoveries, solutions};
 pub use sides::journals;

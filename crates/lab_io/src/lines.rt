@@ -69,7 +69,7 @@ fn fill<S: Source>(pending: &mut Vec<u8>, taken: u64, source: &mut S) -> Result<
     ensures long { IfErr result (λ e. (n : _) → e ≢ LineFault.TooLong n) }
     ensures quiet { NoFeed pending.old.items ⊎ ((source.new ≡ source.old) × (pending.new.items ≡ pending.old.items)) }
     ensures ahead { length pending.new.items ≤ max (length pending.old.items) MAX_PENDING }
-    ensures stands { OnOk result (S.faults source.new ≡ S.faults source.old) }
+    ensures calm { result ≢ Err LineFault.ReadFault → S.faults source.new ≡ S.faults source.old }
 {
     let mut chunk = [0u8; CHUNK];
     'reads: loop {
@@ -150,7 +150,7 @@ fn next_line<S: Source>(
     ensures later { S.faults source.old ≤ S.faults source.new }
     ensures quiet { NoFeed pending.old.items ⊎ (source.new ≡ source.old) }
     ensures ahead { length pending.new.items ≤ max (length pending.old.items) MAX_PENDING }
-    ensures stands { OnOk result (S.faults source.new ≡ S.faults source.old) }
+    ensures calm { result ≢ Err LineFault.ReadFault → S.faults source.new ≡ S.faults source.old }
 {
     match fill(pending, *taken, source)? {
         Found::Feed(at) => {
@@ -217,7 +217,7 @@ fn peek_line<S: Source>(
     ensures err { (n : ℕ) → result ≢ Err (LineFault.TooLong n) }
     ensures quiet { NoFeed pending.old.items ⊎ (source.new ≡ source.old) }
     ensures ahead { length pending.new.items ≤ max (length pending.old.items) MAX_PENDING }
-    ensures stands { OnOk result (S.faults source.new ≡ S.faults source.old) }
+    ensures calm { result ≢ Err LineFault.ReadFault → S.faults source.new ≡ S.faults source.old }
 {
     match fill(pending, taken, source)? {
         Found::Feed(at) => {
@@ -287,7 +287,7 @@ impl LineReader {
         ensures unread { IsSome (fault_of self.old) → source.new ≡ source.old }
         ensures quiet { NoFeed (pending_of self.old) ⊎ (source.new ≡ source.old) }
         ensures ahead { length (pending_of self.new) ≤ max (length (pending_of self.old)) MAX_PENDING }
-        ensures stands { OnOk result (S.faults source.new ≡ S.faults source.old) }
+        ensures calm { result ≢ Err LineFault.ReadFault → S.faults source.new ≡ S.faults source.old }
     {
         if let Some(fault) = self.fault {
             return Err(fault);
@@ -337,7 +337,7 @@ impl LineReader {
         ensures unread { IsSome (fault_of self.old) → source.new ≡ source.old }
         ensures quiet { NoFeed (pending_of self.old) ⊎ (source.new ≡ source.old) }
         ensures ahead { length (pending_of self.new) ≤ max (length (pending_of self.old)) MAX_PENDING }
-        ensures stands { OnOk result (S.faults source.new ≡ S.faults source.old) }
+        ensures calm { result ≢ Err LineFault.ReadFault → S.faults source.new ≡ S.faults source.old }
     {
         if let Some(fault) = self.fault {
             return Err(fault);

@@ -23,6 +23,8 @@ use Rattle.lab_core.proofs.Beside.{beside_rests}
 use Rattle.lab_core.specs.Moments.{IsLabAt, AllStandFor, StandForLab}
 use Rattle.plant.specs.declared.drill.Drill.{Drill}
 use Rattle.script_text.specs.Drills.{drill_of}
+use Rattle.script_text.specs.Replies.{closes}
+use Rattle.script_text.specs.declared.reply.Served.{Served}
 use Rattle.lab_core.specs.Tells.{IsAtRest, IsInBy, IsThere, TellsPlace, is_in, is_of_drill}
 use Rattle.lab_core.proofs.ListSteps.{all_place}
 use Rattle.lab_core.proofs.Rested.{opened_rest}
@@ -33,7 +35,11 @@ use Rattle.lab_words.specs.Words.{Choices}
 use Rattle.lab_core.specs.Commands.{LabStep}
 use Rattle.lab_core.specs.Sessions.{After, Setting, Terms}
 use Rattle.script_text.specs.declared.command.Command.{Command}
-use Rattle.script_text.specs.declared.command.Command.TheVariants.{SwapinWith}
+use Rattle.script_text.specs.declared.command.Command.TheVariants.{Batch, Play, SwapinWith}
+use Rattle.lab_core.specs.BatchLines.{BatchTells, there_in}
+use Rattle.lab_core.specs.PlayTells.{PlayTells}
+use Rattle.lab_core.proofs.BatchLines.{batch_so, batch_tells}
+use Rattle.lab_core.proofs.PlayTells.{play_so, play_tells}
 use Rattle.lab_core.proofs.BySolution.{in_by}
 use Rattle.lab_top.proofs.Pieces.{trace-push}
 use Rattle.lab_top.specs.declared.status.Status.{Status}
@@ -117,6 +123,38 @@ module _ (terms : Terms) (choices : Option Choices) (old new : Outside) (status 
       by (replies.Failed exp ends.In what) is there = later is_in in_rests exp (ap is_of_drill is) (ap (λ x. may_shut (Some x)) is) there
       by (replies.Failed exp ends.Out what) is there = later is_out out_rests exp (ap is_of_drill is) (ap (λ x. may_shut (Some x)) is) there
       by other is there = tt
+
+  -- THE LINES OF A BATCH that doesn't close the controller
+  pub lines_told : (moment lines : ℕ) (text : List ℕ) (served : Served) → b.piece.command ≡ Batch moment lines text → reply ≡ replies.Served served → closes reply ≡ false
+      → BatchTells (λ is exp. AreOthers exp middle → AreAll is (trace_after t.trace (before ++ b ∷ middle)) exp) text served
+  lines_told moment lines text served asks is mild =
+      let l = (done terms choices old new status before (middle ++ after) b t r told sound).leads in
+      let own = b.piece.own ++ l.steps.behind in
+      let set : Setting = record { length = l.steps.length; limit = 2 ^ 32; devices = b.piece.faults.devices } in
+      let end : After = record { reply = l.steps.told; lab = l.last; session = l.steps.session } in
+      let step : LabStep terms trace set l.first b.piece.from (Batch moment lines text) b.piece.opening own end
+      = subst (λ (c : Command). LabStep terms trace set l.first b.piece.from c b.piece.opening own end) asks l.steps.step in
+      let tells = batch_tells terms trace set l.first b.piece.from moment lines text b.piece.opening own end served ((told_of terms trace b.piece l.first l.last l.steps reply replied).0 ∙ ap (λ x. Some x) is) step in
+      let inner : is_of_drill reply ≡ false = ap is_of_drill is in
+      let never : may_shut (Some reply) ≡ false = ap (λ x. may_shut (Some x)) is ∙ sym (ap closes is) ∙ mild in
+      batch_so (there_in last) (λ is exp. AreOthers exp middle → AreAll is (trace_after t.trace (before ++ b ∷ middle)) exp)
+      (λ exp there. later is_in in_rests exp inner never there) (λ exp there. later is_out out_rests exp inner never there) text served tells
+
+  -- THE REPLY TO A PLAY that doesn't close it
+  pub played_told : (exp name text ended : List ℕ) (from until lines count : ℕ) (closing blaming : Bool) → b.piece.command ≡ Play exp from until lines text → reply ≡ replies.Played name count ended closing blaming → closing ≡ false
+      → PlayTells (λ is exp. AreOthers exp middle → AreAll is (trace_after t.trace (before ++ b ∷ middle)) exp) exp (replies.Played name count ended closing blaming)
+  played_told exp name text ended from until lines count closing blaming asks is mild =
+      let l = (done terms choices old new status before (middle ++ after) b t r told sound).leads in
+      let own = b.piece.own ++ l.steps.behind in
+      let set : Setting = record { length = l.steps.length; limit = 2 ^ 32; devices = b.piece.faults.devices } in
+      let end : After = record { reply = l.steps.told; lab = l.last; session = l.steps.session } in
+      let step : LabStep terms trace set l.first b.piece.from (Play exp from until lines text) b.piece.opening own end
+      = subst (λ (c : Command). LabStep terms trace set l.first b.piece.from c b.piece.opening own end) asks l.steps.step in
+      let tells = play_tells terms trace set l.first b.piece.from exp name from until lines count text ended closing blaming b.piece.opening own end ((told_of terms trace b.piece l.first l.last l.steps reply replied).0 ∙ ap (λ x. Some x) is) step in
+      let inner : is_of_drill reply ≡ false = ap is_of_drill is in
+      let never : may_shut (Some reply) ≡ false = ap (λ x. may_shut (Some x)) is ∙ mild in
+      play_so (there_in last) (λ is exp. AreOthers exp middle → AreAll is (trace_after t.trace (before ++ b ∷ middle)) exp)
+      (λ exp there. later is_in in_rests exp inner never there) (λ exp there. later is_out out_rests exp inner never there) exp (replies.Played name count ended closing blaming) tells
 
 -- ONE THAT IS ANSWERED AS IN by a supplied solution is in by it, in the lab that all images stand for
 pub inside_told : (terms : Terms) (choices : Option Choices) (old new : Outside) (status : Status) (before after : List Begun) (b : Begun) (t : Told) (r : Ran terms choices old new status (before ++ b ∷ after)) (told : old.plant.told ≡ Some t)

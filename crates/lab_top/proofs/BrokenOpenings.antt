@@ -1,5 +1,5 @@
 -- Pieces whose opening broke off: nothing of the command's own is done.
-use Rattle.std.proofs.Common.{◌≡◌, inl, inr, ℕ, ◌^◌, Bool, true, false, ◌||◌, ◌&&◌, List, [], ◌∷◌, ◌++◌, Option, Some, None, Err, refl, sym, ◌∙◌, ap, subst, append_assoc, arith}
+use Rattle.std.proofs.Common.{◌≡◌, inl, inr, ⊎_elim, ℕ, ◌^◌, Bool, true, false, ◌||◌, ◌&&◌, List, [], ◌∷◌, ◌++◌, Option, Some, None, Err, refl, sym, ◌∙◌, ap, subst, append_assoc, arith}
 use Rattle.std.specs.Prelude.{not, is_some}
 use Rattle.std.proofs.lemmas.List.{append-nil}
 use Rattle.std.proofs.lemmas.List.Folds.{list_any-append}
@@ -16,7 +16,7 @@ use Rattle.journal_disk.specs.Before.{is_sync_of, are_synced}
 use Rattle.journal_disk.specs.declared.fault.OpenFault.{OpenFault}
 use Rattle.journal_disk.specs.declared.fault.OpenFault.TheVariants as openings
 use Rattle.swap_turns.specs.Pieces.{is_command, is_miss, is_outer, has_command, has_miss, has_outer, has_restart}
-use Rattle.swap_turns.proofs.Blank.{restarted_stand}
+use Rattle.swap_turns.proofs.Blank.{restarted_alone, restarted_stand}
 use Rattle.swap_turns.proofs.Quiet.{shows}
 use Rattle.swap_turns.proofs.Stood.{sound_stands, stood_alike, stood_before, stood_once, stood_settled}
 use Rattle.lab_state.specs.Texts.{the_texts}
@@ -29,8 +29,8 @@ use Rattle.script_text.specs.declared.reply.Reply.{Reply}
 use Rattle.script_text.specs.Drills.{drill_of}
 use Rattle.lab_core.specs.Breaks.{Breaks, stopped, failed, unanswered}
 use Rattle.lab_core.specs.LabSteps.{not_opened}
-use Rattle.lab_core.specs.Moments.{StandForLab, IsLabAt, IsLabOfImage, IsLengthAt}
-use Rattle.lab_core.specs.Opening.{HasRead, IsJournal, OpenEnds, OpenSteps, ReadSteps, SettlesInPart, ShiftsInPart, has_change, is_change}
+use Rattle.lab_core.specs.Moments.{IsBlankOrFirst, StandForLab, IsLabAt, IsLabOfImage, IsLengthAt}
+use Rattle.lab_core.specs.Opening.{HasRead, IsJournal, MakesFirst, OpenEnds, OpenSteps, ReadSteps, SettlesInPart, ShiftsInPart, has_change, is_change}
 use Rattle.lab_core.proofs.Openings.{blank_journal}
 use Rattle.lab_core.proofs.OuterSteps.{no_start}
 use Rattle.lab_state.proofs.Canonical.{texts_once}
@@ -96,7 +96,7 @@ module _ (terms : Terms) (trace : List Event) (command : Command) (mark : Faults
     broken_done : ImagesAt terms trace (of opening reply) (leaves_one Closed reply) (trace ++ opening) last → IsDone terms trace (of opening reply)
     broken_done images =
         done_at terms trace (of opening reply) (trace ++ opening) (ap (λ l. trace ++ l) (append-nil opening)) first last from (broken_steps opening reply first last (lab_length (trace ++ opening) last at) part breaks)
-        (λ opens. breaks_not opening reply breaks opens.no_miss opens.no_restart opens.answered) sound at images
+        (λ opens. ⊎_elim (λ some. breaks_not opening reply breaks opens.no_miss opens.no_restart some) (λ other. absurd (other refl)) opens.went_on) sound at images
 
     -- the controller is closed, and the plant isn't started again
     closed_done : leaves_one Closed reply ≡ false → Each opening → IsDone terms trace (of opening reply)
@@ -135,7 +135,7 @@ module _ (terms : Terms) (trace : List Event) (command : Command) (mark : Faults
   -- IT BROKE OFF IN READING
   module _ (readable : AsRead trace) (steps : List Event) (o : ReadSteps trace steps) where
     read_quiet : OnlyOfJournal steps
-    read_quiet changed = blank_journal _ _ (2 ^ 32) (omega arith) (o.changes changed)
+    read_quiet changed = blank_journal _ _ (2 ^ 32) (omega arith) (o.changes changed).blank
 
     -- a call of the disk failed, memory was wanting, or the sides are no journal
     read_cut : (reply : Option Reply) → leaves_one Closed reply ≡ false → Breaks steps reply → IsPiece terms trace (of steps reply)
@@ -157,8 +157,17 @@ module _ (terms : Terms) (trace : List Event) (command : Command) (mark : Faults
       which_first sound true both = let now = sound_stands the_texts trace _ _ readable sound in (now.0, now.1, stood_settled the_texts trace steps a b now.0 o.settled both there now.1)
       which_first sound false both = let x = stood_before the_texts trace steps a b o.before there sound in (x.2, record { a = x.0; b = x.1; possible = x.3; stand = x.4 }, x.5)
 
+      -- what the start leaves was possible before it
+      makes_again : MakesFirst trace steps → MakesFirst trace (steps ++ Restarted a b ∷ [])
+      makes_again makes = record {
+        blank = makes.blank;
+        first = λ c d possible.
+            let alone = restarted_alone (trace ++ steps) a b c d (subst (λ l. ArePossible l c d) (sym (append_assoc trace steps (Restarted a b ∷ []))) possible) in
+            subst (λ x. IsBlankOrFirst x d) (sym alone.0) (subst (λ y. IsBlankOrFirst a y) (sym alone.1) (makes.first a b there));
+      }
+
       read_again : IsPiece terms trace (of (steps ++ Restarted a b ∷ []) (Some replies.Stopped))
-      read_again = broken_piece (steps ++ Restarted a b ∷ []) (Some replies.Stopped) readable (again_breaks steps a b o.no_outer) (λ changed. read_quiet (sym (again_changes steps a b) ∙ changed)) (λ s at. record { after = s; part = in_reading again_quiet refl; writes = λ changed. o.changes (sym (again_changes steps a b) ∙ changed) }) (λ sound.
+      read_again = broken_piece (steps ++ Restarted a b ∷ []) (Some replies.Stopped) readable (again_breaks steps a b o.no_outer) (λ changed. read_quiet (sym (again_changes steps a b) ∙ changed)) (λ s at. record { after = s; part = in_reading again_quiet refl; writes = λ changed. makes_again (o.changes (sym (again_changes steps a b) ∙ changed)) }) (λ sound.
           let s = which_first sound (are_synced steps) refl in
           again_done steps a b o.no_outer there (o.sound sound) s.0 s.0 (subst (λ e. FirstLab e trace s.0) (sym early) s.1) s.2 (in_reading again_quiet refl))
 

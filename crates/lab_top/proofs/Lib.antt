@@ -6,11 +6,12 @@ mod Commanding
 mod Compact
 mod Drilling
 mod Ended
+mod Headline
 mod Moving
 mod Obeyed
 pub mod Pieces
 pub mod RunLaws
-mod Scripts
+pub mod Scripts
 mod Stepping
 mod Tellings
 pub mod TurnLaws

@@ -1,7 +1,7 @@
 -- Laws of a run: over sides that are no journal; an experiment is kept by the commands that are about others; a supplied solution; an untroubled
 -- recovery; and what a reply tells.
 use Rattle.std.specs.Prelude.{IfSome, is_some, count_by}
-use Rattle.std.proofs.Common.{◌≡◌, Bool, true, false, List, [], ◌∷◌, ◌++◌, Option, Some, None, refl, sym, ◌∙◌, ap, subst, ◌⊎◌, inl, inr, ℕ, ◌^◌, ⊎_elim}
+use Rattle.std.proofs.Common.{◌≡◌, Bool, true, false, List, [], ◌∷◌, ◌++◌, Option, Some, None, Result, refl, sym, ◌∙◌, ap, subst, ◌⊎◌, inl, inr, ℕ, ◌^◌, ⊎_elim}
 use Rattle.std.proofs.lemmas.List.{append-nil}
 use Rattle.std.proofs.lemmas.Option.{same_Some}
 use Rattle.lab_base.specs.Lists.{Has}
@@ -23,7 +23,7 @@ use Rattle.swap_turns.specs.Pieces.{has_miss, has_outer, has_restart}
 use Rattle.swap_turns.proofs.Stood.{stood_once}
 use Rattle.lab_state.specs.Texts.{the_texts}
 use Rattle.lab_state.proofs.Canonical.{texts_once}
-use Rattle.recovery.specs.Due.{is_busy}
+use Rattle.recovery.specs.Due.{is_busy, swaps_of}
 use Rattle.recovery.specs.Settle.{is_stuck}
 use Rattle.script_text.specs.Drills.{drill_of}
 use Rattle.script_text.specs.declared.command.Command.{Command}
@@ -31,18 +31,21 @@ use Rattle.script_text.specs.declared.command.Command.TheVariants.{SwapinWith, R
 use Rattle.script_text.specs.declared.reply.Reply.{Reply}
 use Rattle.script_text.specs.declared.reply.Reply.TheVariants as replies
 use Rattle.script_text.specs.declared.reply.Reply.TheVariants.{Recovered}
+use Rattle.lab_judge.specs.Judge.{Task}
 use Rattle.lab_core.specs.Breaks.{Breaks}
 use Rattle.lab_core.specs.Commands.{is_about, LabStep}
 use Rattle.lab_core.specs.Moments.{IsLabAt, IsNoJournal, StandForLab, IsLabOfImage, AllStandFor}
+use Rattle.lab_core.specs.Recovery.{EndedIn, HasRecovered}
 use Rattle.lab_core.specs.Sessions.{Session, Closed, Open, Setting, After, Terms}
-use Rattle.lab_core.specs.Tells.{AllMove, BeginsAt, IsFeasibleFor, Hinders, TellsBroken, busy_of, is_of_drill, of_drill_if, opens_of, settles, taken_reply}
+use Rattle.lab_core.specs.Tells.{AllMove, BeginsAt, IsFeasibleFor, Hinders, IsAtRest, TellsBroken, busy_of, is_of_drill, of_drill_if, opens_of, settles, taken_reply}
 use Rattle.lab_core.proofs.ListSteps.{all_no_drill, all_stay, all_stop}
 use Rattle.lab_core.proofs.OuterSteps.{CommandTells, Tells, broken_tells, plain, still, tells_step}
 use Rattle.lab_core.proofs.OneJournal.{not_both, one_place}
-use Rattle.lab_core.proofs.Rested.{opened_rest, recovered_rest}
+use Rattle.lab_core.proofs.Beside.{beside_rests}
+use Rattle.lab_core.proofs.Rested.{opened_rest, recovered_rest, recovered_so}
 use Rattle.lab_core.proofs.Said.{as_said}
 use Rattle.lab_core.proofs.SolutionLaws.{in_both}
-use Rattle.lab_core.proofs.StepLaws.{by_one, was}
+use Rattle.lab_core.proofs.StepLaws.{Was as WasStep, by_one, was}
 use Rattle.lab_top.specs.Pieces.{Piece, Begun, AreHandedOn, ArePieces, ButForReply, Counts, Finds, FirstLab, IsCaused, IsPiece, StepsFrom, is_closed, stays_open, steps_of, trace_after, IsOpening, broken_off, opened, AllHave, AreOthers, ImagesAfter, IsDone, is_early, leaves_one, AllRestBut, HasOpened, Leads, OpensTo, may_shut, IsPlannedAs, IsPlannedBy}
 use Rattle.lab_top.specs.Ran.{Outside, Ran, AreAnswered, Answered, EndsSo, LastFindsNone}
 use Rattle.lab_words.specs.Words.{Choices}
@@ -315,23 +318,47 @@ module _ (terms : Terms) (choices : Option Choices) (old new : Outside) (status 
           ),
         )
 
-    module _ (number : ℕ) (asks : b.piece.command ≡ Recover) (replied : b.piece.reply ≡ Some (Recovered number 0)) where
+    module _ (number stuck : ℕ) (asks : b.piece.command ≡ Recover) (replied : b.piece.reply ≡ Some (Recovered number stuck)) where
       one : leaves_one b.piece.to b.piece.reply ≡ true
-      one = ap (leaves_one b.piece.to) replied ∙ left_open b.piece.to (Recovered number 0) refl (λ shut. ap may_shut (sym replied) ∙ piece.shuts (ap drill_of asks) shut)
+      one = ap (leaves_one b.piece.to) replied ∙ left_open b.piece.to (Recovered number stuck) refl (λ shut. ap may_shut (sym replied) ∙ piece.shuts (ap drill_of asks) shut)
 
       all : AllStandFor (trace ++ steps_of b.piece) l.last
       all = subst (λ x. ImagesAfter terms x trace b.piece l.last) one done.images
 
+      step : (j : Result Task Reply) × WasStep None j terms set l.first b.piece.from Recover b.piece.opening own ends
+      step =
+          let by = by_one None terms set l.first b.piece.from Recover b.piece.opening own ends (step_by Recover asks) in
+          (by.0, was by.0 terms set l.first Recover b.piece.opening own ends None b.piece.from by.1)
+
+      -- those whose own settling met no trouble are at rest, whatever became of the others
+      pub recovered_beside : (s : LabState) × FirstLab (is_early b.piece) trace s × (mid : LabState) × BeginsAt b.piece.from s b.piece.opening mid
+          × (last : LabState) × AllStandFor (trace_after t.trace (before ++ b ∷ [])) last × (settled : HasRecovered mid (busy_of b.piece.from) number stuck b.piece.own last)
+          × ((name : List ℕ) → EndedIn (swaps_of (busy_of b.piece.from) mid.experiments) settled.outcomes name → IsAtRest last name)
+      recovered_beside =
+          let replies_so = told_of terms trace b.piece l.first l.last l.steps (Recovered number stuck) replied in
+          let so = recovered_so own ends number stuck replies_so.0 step.0 terms set l.first b.piece.from b.piece.opening step.1 in
+          let alone : own ≡ b.piece.own = ap (λ e. b.piece.own ++ e) replies_so.2 ∙ append-nil b.piece.own in
+          let has = subst (λ e. HasRecovered so.0 (busy_of b.piece.from) number stuck e l.last) alone so.2 in (
+            l.first,
+            l.before,
+            so.0,
+            so.1,
+            l.last,
+            subst (λ e. AllStandFor e l.last) (sym (trace-push t.trace before b)) all,
+            has,
+            λ name ended. beside_rests (swaps_of (busy_of b.piece.from) so.0.experiments) has.outcomes so.0 l.last b.piece.own name has.settles ended,
+          )
+
+    module _ (number : ℕ) (asks : b.piece.command ≡ Recover) (replied : b.piece.reply ≡ Some (Recovered number 0)) where
       rest : (e : Experiment) → Has l.last.experiments e → is_moving e ≡ true → is_busy (busy_of b.piece.from) e.name ≡ true
       rest =
-          let by = by_one None terms set l.first b.piece.from Recover b.piece.opening own ends (step_by Recover asks) in
-          recovered_rest own ends number (told_of terms trace b.piece l.first l.last l.steps (Recovered number 0) replied).0 by.0 terms set l.first b.piece.from b.piece.opening sane
-          (was by.0 terms set l.first Recover b.piece.opening own ends None b.piece.from by.1)
+          recovered_rest own ends number (told_of terms trace b.piece l.first l.last l.steps (Recovered number 0) replied).0 (step number 0 asks replied).0 terms set l.first b.piece.from b.piece.opening sane
+          (step number 0 asks replied).1
 
       pub recovered_rests : AllRestBut (busy_of b.piece.from) (trace_after t.trace (before ++ b ∷ []))
       recovered_rests =
           subst (AllRestBut (busy_of b.piece.from)) (sym (trace-push t.trace before b))
-          (λ x y possible. (l.last, all x y possible, record { rest = rest; as_said = as_said (trace ++ steps_of b.piece) x y l.last done.sound possible (all x y possible) }))
+          (λ x y possible. (l.last, all number 0 asks replied x y possible, record { rest = rest; as_said = as_said (trace ++ steps_of b.piece) x y l.last done.sound possible (all number 0 asks replied x y possible) }))
 
   -- OVER ANY TRACE: a start or a failed reading exactly where the reply tells of it, and no reply of a drill to a command that is none
   module _ (reply : Reply) (replied : b.piece.reply ≡ Some reply) where

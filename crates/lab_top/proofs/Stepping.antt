@@ -1,5 +1,5 @@
 -- Lab steps of pieces, from what an opening and an open controller leave.
-use Rattle.std.proofs.Common.{◌≡◌, inl, inr, ℕ, ◌^◌, Bool, true, false, ◌||◌, ◌&&◌, List, [], ◌∷◌, ◌++◌, Option, Some, None, refl, sym, ◌∙◌, ap, subst, append_assoc}
+use Rattle.std.proofs.Common.{◌≡◌, inl, inr, ⊎_elim, ℕ, ◌^◌, Bool, true, false, ◌||◌, ◌&&◌, List, [], ◌∷◌, ◌++◌, Option, Some, None, refl, sym, ◌∙◌, ap, subst, append_assoc}
 use Rattle.std.specs.Prelude.{not, IfSome, Ok}
 use Rattle.std.specs.List.{list_any}
 use Rattle.std.proofs.lemmas.List.{append-nil}
@@ -124,7 +124,9 @@ module _ (terms : Terms) (trace : List Event) (command : Command) (mark : Faults
       let l = done.leads in
       record {
         leads = record { first = l.first; last = l.last; before = l.before; behind = l.behind; steps = silent_steps l.first l.last l.steps };
-        opened = λ opens. absurd (cc opens.answered);
+        opened = λ opens.
+            let to = done.opened (record { no_drill = opens.no_drill; closed = opens.closed; no_miss = opens.no_miss; no_restart = opens.no_restart; went_on = ⊎_elim (λ some. absurd (cc some)) (λ other. inr other) opens.went_on }) in
+            (to.0, record { opens = to.1.opens; images = to.1.images; sound = to.1.sound });
         images = silent_images (leaves_one to reply) l.first l.last (first_image trace readable (is_early answered_piece) l.first l.before) l.steps done.images;
         sound = done.sound;
       }

@@ -1,5 +1,6 @@
 pub mod Answering
 pub mod Codes
+pub mod Headline
 pub mod Pieces
 pub mod Ran
 pub mod Readers

@@ -16,7 +16,6 @@ use Rattle.plant.specs.declared.step.Side.TheVariants.{A, B}
 use Rattle.virt_topo.specs.declared.experiment.Experiment.{Experiment}
 use Rattle.virt_topo.specs.declared.experiment.Phase.{Phase}
 use Rattle.journal_model.specs.Appends.{other_side}
-use Rattle.journal_model.specs.Journals.{New, head, live}
 use Rattle.records_model.specs.Labs.{LabState, find, is_out}
 use Rattle.records_model.specs.Works.{IsSound}
 use Rattle.journal_disk.specs.Before.{are_synced}
@@ -34,9 +33,9 @@ use Rattle.lab_core.specs.Recovery.{Opens, OpensInPart, Reads, SettlesFirst, rea
 use Rattle.lab_core.specs.Commands.{LabStep, is_about}
 use Rattle.cost_rule.specs.declared.rule.RuleNumber.{RuleNumber}
 use Rattle.lab_core.specs.Compaction.{IsPlaced, IsToMove, packed_length}
-use Rattle.lab_core.specs.Moments.{IsNoJournal, IsLabAt, IsLabOfImage, AllStandFor, StandForLab, IsLengthAt, IsLiveAt}
+use Rattle.lab_core.specs.Moments.{IsFoundAt, IsNoJournal, IsLabAt, IsLabOfImage, AllStandFor, StandForLab, IsLengthAt, IsLiveAt}
 use Rattle.lab_core.specs.Breaks.{Breaks}
-use Rattle.lab_core.specs.Opening.{IsJournal, has_change}
+use Rattle.lab_core.specs.Opening.{IsJournal, MakesFirst, has_change}
 use Rattle.lab_core.specs.Said.{IsAsSaid}
 use Rattle.lab_core.specs.Tells.{BeginsAt, is_in, opens_of}
 use Rattle.lab_core.specs.Lists.{Ground, Past}
@@ -165,7 +164,7 @@ session_after session (b ∷ begun) = session_after b.piece.to begun
 
 -- BEHIND AN OPENING THE JOURNAL IS COMPACT, in that lab: it is at most a mebibyte long, or more than half of it is needed without the lab's past, or its
 -- epoch is the last one. Where a side was live before the opening, the same one is so with the same epoch, or it was moved onto the other side, with
--- the next epoch.
+-- the next epoch. Where both sides were blank, the one to be so or to be moved from is side A, with epoch 1.
 pub record IsCompact (trace opening : List Event) (mid : LabState) : Type 0 where
   pub lab : IsLabAt (trace ++ opening) mid
   pub length : ℕ
@@ -174,11 +173,12 @@ pub record IsCompact (trace opening : List Event) (mid : LabState) : Type 0 wher
   pub epoch : ℕ
   pub live : IsLiveAt (trace ++ opening) side epoch
   pub small : (length ≤ 1048576) ⊎ ((length < 2 * packed_length mid) ⊎ (2 ^ 64 - 1 ≤ epoch))
-  pub moved : (was : Side) (old : ℕ) → IsLiveAt trace was old → ((side ≡ was) × (epoch ≡ old)) ⊎ ((side ≡ other_side was) × (epoch ≡ old + 1))
+  pub moved : (was : Side) (old : ℕ) → IsFoundAt trace was old → ((side ≡ was) × (epoch ≡ old)) ⊎ ((side ≡ other_side was) × (epoch ≡ old + 1))
 
--- WHAT AN OPENING WRITES, cuts or sends beside its settlings: a part that reads makes a new journal alone, and that only where both sides are blank
+-- WHAT AN OPENING WRITES, cuts or sends beside its settlings: a part that reads makes a new journal alone, and that only where both sides are blank;
+-- then they are so still behind it, or side A is live, with epoch 1
 abbrev pub MakesNew : List Event → List Event → Type 0
-MakesNew trace steps = has_change steps ≡ true → live (head (disk A trace).reads) (head (disk B trace).reads) ≡ New
+MakesNew trace steps = has_change steps ≡ true → MakesFirst trace steps
 
 -- and a part that moves the journal, behind those steps and in that lab, does so only where that is to move; and the side that was live stays as it was,
 -- up to the start of a plant that stopped
@@ -288,13 +288,14 @@ pub record Leads (terms : Terms) (trace : List Event) (piece : Piece) : Type 0 w
   pub behind : IsLabAt (trace ++ steps_of piece) last
   pub steps : StepsFrom terms trace piece first last
 
--- the command opened the controller, and no call of the disk failed and the plant did not stop in that
+-- the command opened the controller, and no call of the disk failed and the plant did not stop in that; and it was not cut short there, since it is
+-- answered or did something of its own
 pub record HasOpened (piece : Piece) : Type 0 where
   pub no_drill : drill_of piece.command ≡ None
   pub closed : piece.from ≡ Closed
   pub no_miss : has_miss piece.opening ≡ false
   pub no_restart : has_restart piece.opening ≡ false
-  pub answered : is_some piece.reply ≡ true
+  pub went_on : (is_some piece.reply ≡ true) ⊎ (piece.own ≡ [] → ⊥)
 
 -- behind its opening, which led there, all images stand for that lab
 pub record OpensTo (trace : List Event) (piece : Piece) (s mid : LabState) : Type 0 where

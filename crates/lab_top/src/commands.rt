@@ -1,4 +1,4 @@
-ghost use Rattle.std.specs.Prelude.{◌≡◌, ◌≤◌, List, Some};
+ghost use Rattle.std.specs.Prelude.{◌≡◌, ◌≢◌, ◌≤◌, List, Some};
 ghost use Rattle.lab_base.specs.Counts.{Rose};
 ghost use Rattle.lab_core.specs.Sessions.{terms_of};
 ghost use Rattle.lab_top.specs.Pieces.{Begun};
@@ -31,6 +31,7 @@ pub(crate) fn obey_commands<S: Source, T: Teller, P: Tables>(
         (record { left = S.left source.new; plant = P.seen plant.new; written = T.written teller.new }) result made
         × (result ≡ Status.Done → Took T.takes teller.old (replies_of made) teller.new) }
     ensures read { result ≡ Status.ReadFault → Rose (S.faults source.old) (S.faults source.new) }
+    ensures calm { result ≢ Status.ReadFault → S.faults source.new ≡ S.faults source.old }
     ensures read_later { S.faults source.old ≤ S.faults source.new }
     ensures write { result ≡ Status.WriteFault → Rose (T.faults teller.old) (T.faults teller.new) }
     ensures write_later { T.faults teller.old ≤ T.faults teller.new }

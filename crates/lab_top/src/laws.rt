@@ -18,20 +18,23 @@ ghost use Rattle.lab_state.specs.Texts.{the_texts};
 ghost use Rattle.swap_turns.specs.Swaps.{Moves};
 ghost use Rattle.script_text.specs.Commands.{Ending, IsScript};
 ghost use Rattle.script_text.specs.declared.command.Command.{Command};
-ghost use Rattle.script_text.specs.declared.command.Command.TheVariants.{Audit, Recover, SwapinWith, Turn};
+ghost use Rattle.script_text.specs.declared.command.Command.TheVariants.{Audit, Batch, Play, Recover, SwapinWith, Turn};
 ghost use Rattle.script_text.specs.declared.reply.Reply.{Reply};
 ghost use Rattle.script_text.specs.declared.reply.AuditLine.{AuditLine};
-ghost use Rattle.script_text.specs.declared.reply.Reply.TheVariants.{Audit as Audited, In, More, Recovered, Unread as NotRead};
+ghost use Rattle.script_text.specs.declared.reply.Reply.TheVariants.{Audit as Audited, In, More, Played, Recovered, Served as Lines, Unread as NotRead};
+ghost use Rattle.script_text.specs.declared.reply.Served.{Served};
 ghost use Rattle.script_text.specs.Drills.{drill_of};
 ghost use Rattle.script_text.specs.Replies.{closes};
 ghost use Rattle.lab_core.specs.Moments.{AllStandFor, IsLabAt, IsNoJournal, StandForLab};
-ghost use Rattle.lab_core.specs.Recovery.{EndedIn};
+ghost use Rattle.lab_core.specs.BatchLines.{BatchTells};
+ghost use Rattle.lab_core.specs.PlayTells.{PlayTells};
+ghost use Rattle.lab_core.specs.Recovery.{EndedIn, HasRecovered};
 ghost use Rattle.recovery.specs.Due.{swaps_of};
 ghost use Rattle.lab_core.specs.Sessions.{OpenSwap, Closed, open_at, Terms};
 ghost use Rattle.lab_core.specs.Tells.{BeginsAt, IsAtRest, busy_of, IsFeasibleFor, IsInBy, Hinders, is_of_drill, is_stopped, IsTurn, IsTurnOf, SendsOne, opens_of, taken_reply, TellsBroken};
 ghost use Rattle.plant.specs.Events.{Event, Unread};
 ghost use Rattle.lab_top.specs.Reports.{ChangesNothing, TellsDifference};
-ghost use Rattle.lab_top.specs.Pieces.{Begun, Piece, TellsAll, AllHave, AllRestBut, AreOn, AreOthers, FirstLab, HasOpened, OpensTo, StayOpen, is_closed, is_early, session_after, steps_of, trace_after};
+ghost use Rattle.lab_top.specs.Pieces.{Begun, Piece, TellsAll, AllHave, AllRestBut, AreAll, AreOn, AreOthers, FirstLab, HasOpened, OpensTo, StayOpen, is_closed, is_early, session_after, steps_of, trace_after};
 ghost use Rattle.lab_top.specs.Ran.{Outside, Ran};
 ghost use Rattle.lab_words.specs.Words.{Choices};
 ghost use Rattle.lab_top.specs.declared.status.Status.{Status};
@@ -53,6 +56,8 @@ pub fn bad_journals()
 
 /// A supplied solution is swapped in, or its swap begins where `open` stands before the command, exactly where it is feasible on the free rest of the
 /// lab behind the opening. Else the reply tells what hindered it.
+/// What a line of a reply to `batch` tells is so like what any reply tells, if no later run of that batch is of the experiment; and so is what the reply
+/// tells that ended a `play`, and that the experiment is in, where none did.
 /// An experiment that doesn't move stays as it is, in every image that a later stop may leave, until a later command on it.
 /// The reply is `stopped` exactly where the plant stopped, and a command that is no drill has no reply of a drill, both whatever the trace was
 /// before. The empty trace is sound.
@@ -73,6 +78,16 @@ pub fn runs()
         (t : Told) (reply : Reply)
         → Ran terms choices old new status (before ++ b ∷ (middle ++ after)) → old.plant.told ≡ Some t → IsSound the_texts t.trace → b.piece.reply ≡ Some reply
         → TellsAll reply middle (trace_after t.trace (before ++ b ∷ middle)) }
+    ensures lines { (terms : Terms) (choices : Option Choices) (old new : Outside) (status : Status) (before middle after : List Begun) (b : Begun) (t : Told)
+        (moment lines : ℕ) (text : List ℕ) (served : Served)
+        → Ran terms choices old new status (before ++ b ∷ (middle ++ after)) → old.plant.told ≡ Some t → IsSound the_texts t.trace
+        → b.piece.command ≡ Batch moment lines text → b.piece.reply ≡ Some (Lines served) → closes (Lines served) ≡ false
+        → BatchTells (λ is exp. AreOthers exp middle → AreAll is (trace_after t.trace (before ++ b ∷ middle)) exp) text served }
+    ensures played { (terms : Terms) (choices : Option Choices) (old new : Outside) (status : Status) (before middle after : List Begun) (b : Begun) (t : Told)
+        (exp name text last : List ℕ) (from until lines count : ℕ) (closing blaming : Bool)
+        → Ran terms choices old new status (before ++ b ∷ (middle ++ after)) → old.plant.told ≡ Some t → IsSound the_texts t.trace
+        → b.piece.command ≡ Play exp from until lines text → b.piece.reply ≡ Some (Played name count last closing blaming) → closing ≡ false
+        → PlayTells (λ is exp. AreOthers exp middle → AreAll is (trace_after t.trace (before ++ b ∷ middle)) exp) exp (Played name count last closing blaming) }
     ensures inside { (terms : Terms) (choices : Option Choices) (old new : Outside) (status : Status) (before after : List Begun) (b : Begun) (t : Told)
         (exp text : List ℕ) (lines : ℕ)
         → Ran terms choices old new status (before ++ b ∷ after) → old.plant.told ≡ Some t → IsSound the_texts t.trace
@@ -91,7 +106,7 @@ pub fn runs()
 {}
 
 /// Recoveries, over every sound trace: behind an opening in which none got stuck, and behind a `recover` that tells so, no experiment moves but those
-/// with an open swap.
+/// with an open swap. Where some got stuck, one whose own settling met no trouble is at rest still.
 /// So it is in any image that a stop may leave. Besides what these claim, the devices have exactly what the experiments that are in want.
 pub fn recoveries()
     ensures opened { (terms : Terms) (choices : Option Choices) (old new : Outside) (status : Status) (before after : List Begun) (b : Begun) (t : Told)
@@ -108,6 +123,14 @@ pub fn recoveries()
         → Ran terms choices old new status (before ++ b ∷ after) → old.plant.told ≡ Some t → IsSound the_texts t.trace → b.piece.command ≡ Recover
         → b.piece.reply ≡ Some (Recovered done 0)
         → AllRestBut (busy_of b.piece.from) (trace_after t.trace (before ++ b ∷ [])) }
+    ensures recovered_beside { (terms : Terms) (choices : Option Choices) (old new : Outside) (status : Status) (before after : List Begun) (b : Begun)
+        (t : Told) (done stuck : ℕ)
+        → Ran terms choices old new status (before ++ b ∷ after) → old.plant.told ≡ Some t → IsSound the_texts t.trace → b.piece.command ≡ Recover
+        → b.piece.reply ≡ Some (Recovered done stuck)
+        → (s : LabState) × FirstLab (is_early b.piece) (trace_after t.trace before) s × (mid : LabState) × BeginsAt b.piece.from s b.piece.opening mid
+        × (last : LabState) × AllStandFor (trace_after t.trace (before ++ b ∷ [])) last
+        × (settled : HasRecovered mid (busy_of b.piece.from) done stuck b.piece.own last)
+        × ((name : List ℕ) → EndedIn (swaps_of (busy_of b.piece.from) mid.experiments) settled.outcomes name → IsAtRest last name) }
 {}
 
 /// Many swaps at once.

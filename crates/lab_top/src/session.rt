@@ -1,5 +1,5 @@
 // A session under its cost rule.
-ghost use Rattle.std.specs.Prelude.{◌≡◌, ◌≤◌, List, Some, None, is_some, true};
+ghost use Rattle.std.specs.Prelude.{◌≡◌, ◌≢◌, ◌≤◌, List, Some, None, is_some, true};
 ghost use Rattle.lab_base.specs.Counts.{Rose};
 ghost use Rattle.virt_topo.specs.Soundness.{IsSound};
 ghost use Rattle.lab_model.specs.Shapes.{IsShaped};
@@ -33,6 +33,7 @@ fn run_script<S: Source, K: Sink, P: Tables>(
         (record { left = S.left source.old; plant = P.seen plant.old; written = K.written sink.old })
         (record { left = S.left source.new; plant = P.seen plant.new; written = K.written sink.new }) result made }
     ensures read { result ≡ Status.ReadFault → Rose (S.faults source.old) (S.faults source.new) }
+    ensures calm { result ≢ Status.ReadFault → S.faults source.new ≡ S.faults source.old }
     ensures read_later { S.faults source.old ≤ S.faults source.new }
     ensures write { result ≡ Status.WriteFault → Rose (K.faults sink.old) (K.faults sink.new) }
     ensures write_later { K.faults sink.old ≤ K.faults sink.new }
@@ -57,6 +58,7 @@ pub(crate) fn run_under<S: Source, K: Sink, P: Tables>(
         (record { left = S.left source.new; plant = P.seen plant.new; written = K.written sink.new }) result made }
     ensures unread { is_some seed ≡ true → source.new ≡ source.old }
     ensures read { result ≡ Status.ReadFault → Rose (S.faults source.old) (S.faults source.new) }
+    ensures calm { result ≢ Status.ReadFault → S.faults source.new ≡ S.faults source.old }
     ensures read_later { S.faults source.old ≤ S.faults source.new }
     ensures write { result ≡ Status.WriteFault → Rose (K.faults sink.old) (K.faults sink.new) }
     ensures write_later { K.faults sink.old ≤ K.faults sink.new }

@@ -12,7 +12,7 @@ pub enum Status {
     ReadFault,
     /// The sink failed.
     WriteFault,
-    /// There are words behind the program's name.
+    /// The words are no command line.
     Usage,
     /// The first line that is not in the grammar of scripts, the script's first line being 1.
     BadScript { line: u64 },

@@ -1,5 +1,6 @@
 -- One more is settled.
-use Rattle.std.proofs.Common.{◌≡◌, ◌≤◌, ◌+◌, ℕ, suc, List, [], ◌∷◌, ◌++◌, length, map, take, drop, slice_get, Option, Some, None, Result, Ok, Err, refl, sym, ap, ◌∙◌, subst, arith}
+use Rattle.std.specs.Prelude.{IsErrOf, IsTrue, ◌↔◌}
+use Rattle.std.proofs.Common.{◌≡◌, ◌⊎◌, inl, inr, Bool, ◌≤◌, ◌+◌, ℕ, suc, List, [], ◌∷◌, ◌++◌, length, map, take, drop, slice_get, Option, Some, None, Result, Ok, Err, refl, sym, ap, ◌∙◌, subst, arith}
 use Rattle.std.proofs.lemmas.Grind.{flat_map-append}
 use Rattle.std.proofs.lemmas.List.{length-append, append-nil, take_all, take-append-drop}
 use Rattle.lab_base.specs.Lists.{AllDiffer, listed}
@@ -48,26 +49,33 @@ rest_by : (mid after : LabState) (n : ℕ) (e : Experiment) (p : Swap) → AllDi
 rest_by mid after n e p differ at named x =
     ap (drop (n + 1)) (x.is ∙ ap (λ m. replace m x.now mid.experiments) named) ∙ rest_kept mid.experiments n e x.now differ at
 
+-- where one is to be settled, some are
+pub some_due : (xs : List Swap) (p : Swap) (rest : List Swap) → xs ++ p ∷ rest ≡ [] → ⊥
+some_due [] p rest is = absurd (cc is)
+some_due (x ∷ xs) p rest is = absurd (cc is)
+
 module _ (t : Texts) (s : LabState) (busy : List (List ℕ)) (before was : Seen) (j : Journal) (n : ℕ) (mid : LabState) (settled : Settled) (u : SettledTo t s busy before was j n mid settled) (within : n + 1 ≤ length s.experiments) where
   -- NONE IS DUE there
-  pub skipped : None ≡ name_of (due_in busy (slice_get mid.experiments n)) → SettledTo t s busy before was j (n + 1) mid settled
-  skipped none = by (slice_get s.experiments n) refl
+  pub none_more : None ≡ name_of (due_in busy (slice_get mid.experiments n)) → swaps_of busy (take n s.experiments) ≡ swaps_of busy (take (n + 1) s.experiments)
+  none_more none = by (slice_get s.experiments n) refl
     where
       same : slice_get mid.experiments n ≡ slice_get s.experiments n
       same = same_at mid.experiments s.experiments n u.rest
 
-      by : (o : Option Experiment) → slice_get s.experiments n ≡ o → SettledTo t s busy before was j (n + 1) mid settled
+      by : (o : Option Experiment) → slice_get s.experiments n ≡ o → swaps_of busy (take n s.experiments) ≡ swaps_of busy (take (n + 1) s.experiments)
       by None is = absurd (omega (arith, within, length_past s.experiments n is))
       by (Some e) is =
           let d = due_none busy e (subst (λ o. None ≡ name_of (due_in busy o)) (same ∙ is) none) in
-          let ps : swaps_of busy (take n s.experiments) ≡ swaps_of busy (take (n + 1) s.experiments) = sym (swaps_more busy s.experiments n e is ∙ ap (λ o. swaps_of busy (take n s.experiments) ++ listed o) d ∙ append-nil (swaps_of busy (take n s.experiments))) in
-          record {
-            outcomes = u.outcomes;
-            has = subst (λ l. HasSettled t s l before was j u.outcomes mid) ps u.has;
-            rest = rest_more mid.experiments s.experiments n u.rest;
-            counts = u.counts;
-            few = omega (arith, u.few);
-          }
+          sym (swaps_more busy s.experiments n e is ∙ ap (λ o. swaps_of busy (take n s.experiments) ++ listed o) d ∙ append-nil (swaps_of busy (take n s.experiments)))
+
+  pub skipped : None ≡ name_of (due_in busy (slice_get mid.experiments n)) → SettledTo t s busy before was j (n + 1) mid settled
+  skipped none = record {
+    outcomes = u.outcomes;
+    has = subst (λ l. HasSettled t s l before was j u.outcomes mid) (none_more none) u.has;
+    rest = rest_more mid.experiments s.experiments n u.rest;
+    counts = u.counts;
+    few = omega (arith, u.few);
+  }
 
   -- memory was wanting: so far, and the rest
   wanting : SettledSome t s busy before was j mid
@@ -79,12 +87,22 @@ module _ (t : Texts) (s : LabState) (busy : List (List ℕ)) (before was : Seen)
     has = u.has;
   }
 
+  at_start : (e : Experiment) → slice_get mid.experiments n ≡ Some e → slice_get s.experiments n ≡ Some e
+  at_start e at = sym (same_at mid.experiments s.experiments n u.rest) ∙ at
+
+  -- ONE IS DUE there
+  pub one_more : (e : Experiment) (p : Swap) → slice_get mid.experiments n ≡ Some e → due busy e ≡ Some p → swaps_of busy (take n s.experiments) ++ p ∷ [] ≡ swaps_of busy (take (n + 1) s.experiments)
+  one_more e p at due_here = sym (swaps_more busy s.experiments n e (at_start e at) ∙ ap (λ o. swaps_of busy (take n s.experiments) ++ listed o) due_here)
+
+  pub is_due : (e : Experiment) (p : Swap) → slice_get mid.experiments n ≡ Some e → due busy e ≡ Some p → swaps_of busy s.experiments ≡ [] → ⊥
+  is_due e p at due_here none = some_due (swaps_of busy (take n s.experiments)) p (swaps_of busy (drop (suc n) s.experiments)) (swaps_split busy s.experiments n e p (at_start e at) due_here ∙ none)
+
   module _ (now : Seen) (k : Journal) (after : LabState) (e : Experiment) (p : Swap) (at : slice_get mid.experiments n ≡ Some e) (due_here : due busy e ≡ Some p) where
     at_s : slice_get s.experiments n ≡ Some e
-    at_s = sym (same_at mid.experiments s.experiments n u.rest) ∙ at
+    at_s = at_start e at
 
     ps_more : swaps_of busy (take n s.experiments) ++ p ∷ [] ≡ swaps_of busy (take (n + 1) s.experiments)
-    ps_more = sym (swaps_more busy s.experiments n e at_s ∙ ap (λ o. swaps_of busy (take n s.experiments) ++ listed o) due_here)
+    ps_more = one_more e p at due_here
 
     more : (outcome : Outcome) (next : Settled) → IsSettled outcome → HasSettledOne t mid p was now k outcome after → drop (n + 1) after.experiments ≡ drop (n + 1) mid.experiments → Counts next (u.outcomes ++ outcome ∷ []) → SettledTo t s busy before now k (n + 1) after next
     more outcome next is_settled one rest counts = record {
@@ -134,6 +152,15 @@ module _ (t : Texts) (s : LabState) (busy : List (List ℕ)) (before was : Seen)
         let is = same refl in
         subst (λ x. SettledSome t s busy before now k x) (sym is.0)
         (subst (λ x. SettledSome t s busy before now x mid) (sym is.1) (subst (λ x. SettledSome t s busy before x j mid) (sym is.2) wanting))
+
+-- where one breaks off, all do
+pub stops_as : (fault : SettleFault) (stopped : Bool) → IsErrOf {T = One} (Err fault) faults.Memory ⊎ (IsErrOf {T = One} (Err fault) faults.Stopped ↔ IsTrue stopped)
+    → IsErrOf {T = Settled} (Err fault) faults.Memory ⊎ (IsErrOf {T = Settled} (Err fault) faults.Stopped ↔ IsTrue stopped)
+stops_as faults.Memory stopped h = inl refl
+stops_as faults.Plant stopped (inl is) = absurd (cc is)
+stops_as faults.Plant stopped (inr both) = inr (λ is. absurd (cc is), λ is. absurd (cc (both.1 is)))
+stops_as faults.Stopped stopped (inl is) = absurd (cc is)
+stops_as faults.Stopped stopped (inr both) = inr (λ is. both.0 refl, λ is. refl)
 
 -- NONE YET, and all
 pub none_settled : (t : Texts) (s : LabState) (busy : List (List ℕ)) (now : Seen) (j : Journal) (settled : Settled) → settled ≡ record { done = 0; stuck = 0 } → AtWork t now.told j s → SettledTo t s busy now now j 0 s settled

@@ -1,11 +1,11 @@
 // The settling of all experiments that move.
-ghost use Rattle.std.specs.Prelude.{◌≡◌, ◌≤◌, ◌<◌, ◌^◌, ◌↔◌, length, slice_get, IfSome, IsErrOf, IsTrue, false};
+ghost use Rattle.std.specs.Prelude.{◌≡◌, ◌≤◌, ◌<◌, ◌^◌, ◌↔◌, ◌⊎◌, [], length, slice_get, IfSome, IsErrOf, IsTrue, Ok, false};
 ghost use Rattle.journal_disk.specs.Standing.{limit_of};
 ghost use Rattle.lab_state.specs.Texts.{the_texts};
 ghost use Rattle.swap_txn.specs.Steps.{live_of};
 ghost use Rattle.swap_turns.specs.Causes.{IsLater};
 ghost use Rattle.swap_turns.specs.Running.{AtWork};
-ghost use Rattle.recovery.specs.Due.{due, due_in, name_of};
+ghost use Rattle.recovery.specs.Due.{due, due_in, name_of, swaps_of};
 ghost use Rattle.recovery.specs.Settle.{CountedBy, AfterAll};
 
 use crate::{One, SettleFault, settle_one};
@@ -81,7 +81,7 @@ fn counted(settled: Settled, one: &One) -> Settled
 /// One whose course is cut still moves, and the others go on. A failed call of the journal, a stop, or want of memory between two of them breaks it
 /// off. After `Plant` and `Stopped` the state is to be dropped.
 ///
-/// Over a plant that is already stopped it answers `Stopped` where an experiment is to be settled, and zero counts where none is.
+/// Over a plant that is already stopped it answers `Stopped` where an experiment is to be settled, if memory suffices, and zero counts where none is.
 pub fn settle<P: Plant>(
     alloc: Global,
     state: &mut LabState,
@@ -92,6 +92,10 @@ pub fn settle<P: Plant>(
     requires { AtWork the_texts (P.seen plant.old).told journal.old state.old.state }
     ensures after { AfterAll the_texts state.old.state busy.now (P.seen plant.old) (P.seen plant.new) journal.new state.new.state result }
     ensures stopped { (P.seen plant.old).stopped ≡ false → (IsErrOf result SettleFault.Stopped ↔ IsTrue (P.seen plant.new).stopped) }
+    ensures stops { (swaps_of busy.now state.old.state.experiments ≡ [])
+        ⊎ (IsErrOf result SettleFault.Memory ⊎ (IsErrOf result SettleFault.Stopped ↔ IsTrue (P.seen plant.new).stopped)) }
+    ensures idle { swaps_of busy.now state.old.state.experiments ≡ []
+        → (result ≡ Ok (record { done = 0; stuck = 0 })) × (journal.new ≡ journal.old) × (plant.new ≡ plant.old) }
     ensures later { IsLater (P.seen plant.old) (P.seen plant.new) }
     ensures limit { limit_of journal.new ≡ limit_of journal.old }
     ensures live { live_of journal.new ≡ live_of journal.old }

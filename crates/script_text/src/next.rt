@@ -1,4 +1,4 @@
-ghost use Rattle.std.specs.Prelude.{◌≡◌, ◌≤◌, ◌<◌, ◌+◌, ℕ, [], ◌∷◌, length, None, Some, false, IfOk, IfSome, IfNone, OnOk, OnErr, IsErrOf};
+ghost use Rattle.std.specs.Prelude.{◌≡◌, ◌≢◌, ◌≤◌, ◌<◌, ◌+◌, ℕ, [], ◌∷◌, length, Err, None, Some, false, IfOk, IfSome, IfNone, OnOk, OnErr, IsErrOf};
 ghost use Rattle.std.specs.Io.KnownBytes.{IsAtEnd};
 ghost use Rattle.lab_base.specs.Counts.{Rose};
 ghost use Rattle.lab_io.specs.Feeds.{NoFeed};
@@ -57,6 +57,7 @@ fn take_line<S: Source>(lines: &mut LineReader, source: &mut S) -> Result<Option
     ensures read { fault_of lines.old ≡ None → IsErrOf result ScriptFault.ReadFault
         → Rose (S.faults source.old) (S.faults source.new) × NoFeed (pending_of lines.new) × (ended_of lines.old ≡ false) }
     ensures later { S.faults source.old ≤ S.faults source.new }
+    ensures calm { result ≢ Err ScriptFault.ReadFault → S.faults source.new ≡ S.faults source.old }
     ensures ahead { HoldsNoMore lines.old lines.new }
     ensures within { taken_of lines.new ≤ MAX_SCRIPT }
     ensures ok { OnOk result (fault_of lines.new ≡ None) }
@@ -92,6 +93,7 @@ fn find_head<S: Source>(
     ensures unfinished { IsReady lines.old (S.left source.old) → IsErrOf result ScriptFault.ReadFault
         → IsUnfinished (stand_of lines.old (S.left source.old)) (stand_of lines.new (S.left source.new)) }
     ensures later { S.faults source.old ≤ S.faults source.new }
+    ensures calm { result ≢ Err ScriptFault.ReadFault → S.faults source.new ≡ S.faults source.old }
     ensures ahead { HoldsNoMore lines.old lines.new }
     ensures within { taken_of lines.new ≤ MAX_SCRIPT }
     ensures ok { OnOk result (fault_of lines.new ≡ None) }
@@ -131,6 +133,7 @@ fn take_block<S: Source>(
     ensures cut { IsReady lines.old (S.left source.old) → IsErrOf result ScriptFault.ReadFault
         → IsCut (stand_of lines.old (S.left source.old)) (stand_of lines.new (S.left source.new)) count }
     ensures later { S.faults source.old ≤ S.faults source.new }
+    ensures calm { result ≢ Err ScriptFault.ReadFault → S.faults source.new ≡ S.faults source.old }
     ensures ahead { HoldsNoMore lines.old lines.new }
     ensures taken { OnOk result (taken_of lines.old ≤ taken_of lines.new) }
     ensures ok { fault_of lines.old ≡ None → OnOk result (fault_of lines.new ≡ None) }
@@ -171,6 +174,7 @@ fn with_blocks<S: Source>(
     ensures unfinished { IsReady lines.old (S.left source.old) → IsErrOf result ScriptFault.ReadFault
         → IsHalf (stand_of lines.old (S.left source.old)) (stand_of lines.new (S.left source.new)) head }
     ensures later { S.faults source.old ≤ S.faults source.new }
+    ensures calm { result ≢ Err ScriptFault.ReadFault → S.faults source.new ≡ S.faults source.old }
     ensures ahead { HoldsNoMore lines.old lines.new }
     ensures taken { OnOk result (taken_of lines.old ≤ taken_of lines.new) }
     ensures ok { fault_of lines.old ≡ None → OnOk result (fault_of lines.new ≡ None) }
@@ -195,7 +199,7 @@ fn with_blocks<S: Source>(
 
 /// Reads the next command of a script, with its blocks; its words are by the forms of `Command`.
 ///
-/// A reader that has met a fault answers that fault again, and nothing else is said of it.
+/// It is for a reader that has met no fault: of one that has, it isn't said which answer comes.
 /// After a fault no line was taken behind the command that comes next, or behind the one that `Bad` tells.
 pub fn read_command<S: Source>(
     alloc: Global,
@@ -215,6 +219,7 @@ pub fn read_command<S: Source>(
     ensures unfinished { IsReady lines.old (S.left source.old) → IsErrOf result ScriptFault.ReadFault
         → IsUnfinished (stand_of lines.old (S.left source.old)) (stand_of lines.new (S.left source.new)) }
     ensures later { S.faults source.old ≤ S.faults source.new }
+    ensures calm { result ≢ Err ScriptFault.ReadFault → S.faults source.new ≡ S.faults source.old }
     ensures ahead { HoldsNoMore lines.old lines.new }
     ensures ok { OnOk result (fault_of lines.new ≡ None) }
 {

@@ -9,8 +9,11 @@ use Rattle.lab_model.specs.Courses.{Trouble as AnyTrouble}
 use Rattle.records_model.specs.Labs.{LabState, Move, Texts}
 use Rattle.records_model.specs.Works.{IsSound}
 use Rattle.swap_txn.specs.declared.live.Live.{Live}
+use Rattle.swap_txn.specs.declared.turned.Turned.{Turned}
+use Rattle.swap_txn.specs.declared.turned.Turned.TheVariants as turned
 use Rattle.lab_base.specs.declared.what.What.TheVariants as whats
 use Rattle.plant.specs.Seen.{Seen}
+use Rattle.swap_txn.specs.States.{Plans}
 use Rattle.swap_txn.specs.Troubles.{what_of}
 use Rattle.swap_turns.specs.Records.{missed, nothing}
 use Rattle.swap_turns.specs.Swaps.{Swap}
@@ -128,6 +131,13 @@ IfSent result P = Unit {0}
 abbrev pub IsStopOpening : Result (Unit {0}) NotOpened → Type 0
 IsStopOpening (Err unopened.Stopped) = Unit {0}
 IsStopOpening result = ⊥
+
+-- how the turn that appends Begin is told
+abbrev pub IsToldBy : Turned Plans → Result (Unit {0}) NotOpened → Type 0
+IsToldBy (turned.Next state) (Ok done) = Unit {0}
+IsToldBy (turned.Stuck plans what) (Err (unopened.Stuck other)) = other ≡ what
+IsToldBy turned.Stopped (Err unopened.Stopped) = Unit {0}
+IsToldBy turn result = ⊥
 
 -- A SWAP THAT WAS OPENED is one more
 pub record HasOpened (t : Texts) (opens : List (OpenSwap × Live)) (p : Swap) (s u : LabState) (begin : Record) (move : Move) (was now : Seen) (j k : Journal) (new : List Live) : Type 0 where

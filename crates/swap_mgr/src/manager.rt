@@ -11,14 +11,18 @@ ghost use Rattle.journal_disk.specs.Standing.{length_of, limit_of};
 ghost use Rattle.records_model.specs.Labs.{LabState, Texts, Move, lab_in};
 ghost use Rattle.slab.specs.Slab.{get};
 ghost use Rattle.swap_txn.specs.declared.live.Live.{Live as State};
+ghost use Rattle.swap_txn.specs.declared.live.Live.TheVariants as stages;
+ghost use Rattle.swap_txn.specs.declared.turned.Turned.{Turned as TurnedAs};
 ghost use Rattle.swap_txn.specs.Facts.{exp_of};
+ghost use Rattle.swap_txn.specs.States.{Plans};
 ghost use Rattle.swap_txn.specs.Steps.{Stands};
+ghost use Rattle.swap_txn.specs.Turns.{Begins};
 ghost use Rattle.swap_turns.specs.Swaps.{Swap, Moves};
 ghost use Rattle.swap_turns.specs.Beginning.{BeginsOf, MayBegin, IsPlanOf};
 ghost use Rattle.swap_turns.specs.OneTurn.{open_in};
 ghost use Rattle.swap_turns.specs.Running.{OpenSwap, Working};
 ghost use Rattle.swap_mgr.specs.Managing.{Holds, IsManaging, GoesOnBy, HasTurned, HasTurnedToEnd};
-ghost use Rattle.swap_mgr.specs.Managing.{IsAnsweredBy, IfNothingSent, IfSent, IsStopOpening, IsAfterOpening};
+ghost use Rattle.swap_mgr.specs.Managing.{IsAnsweredBy, IfNothingSent, IfSent, IsStopOpening, IsAfterOpening, IsToldBy};
 ghost use Rattle.swap_mgr.specs.Open.{AreNames, AreWithin, HasOpen, IsWith, IsWithout, PutBy, states};
 ghost use Rattle.swap_mgr.specs.Turns.{IsStop};
 
@@ -148,7 +152,7 @@ impl Manager {
         }
     }
 
-    /// Appends the plan's Begin, and holds the swap. It takes no memory: the room for 16 swaps is the manager's own.
+    /// Appends the plan's Begin, and holds the swap behind it. It takes no memory: the room for 16 swaps is the manager's own.
     pub fn open<P: Plant>(
         &mut self,
         planned: Planned,
@@ -168,7 +172,9 @@ impl Manager {
         ensures stopped { IfSent result (IsStopOpening result ↔ IsTrue (P.seen plant.new).stopped) }
         ensures stuck { (what : AnyWhat) → result ≡ Err (NotOpened.Stuck what)
             → (what ≡ whats.Journal) × Rose (P.seen plant.old).faults.disk (P.seen plant.new).faults.disk }
-        ensures held { OnOk result ((state : State) × IsWith self.old state self.new × (exp_of state ≡ planned.forth.exp)) }
+        ensures begins { IfSent result ((r : Record) → IsBody planned.begin r → (turned : TurnedAs Plans)
+            × Begins planned (P.seen plant.old) (P.seen plant.new) journal.old journal.new turned r × IsToldBy turned result) }
+        ensures held { OnOk result (IsWith self.old (stages.Begun planned.forth) self.new) }
         ensures limit { limit_of journal.new ≡ limit_of journal.old }
     {
         let exp = planned.exp();

@@ -3,6 +3,9 @@ use Rattle.script_text.specs.Drills.{drill_of}
 use Rattle.script_text.specs.declared.reply.Reply.TheVariants.{Unread}
 use Rattle.lab_judge.specs.Judge.{Tell, Swap}
 use Rattle.lab_judge.proofs.Judgements.{judged_once}
+use Rattle.lab_core.proofs.BatchLines.{batch_tells}
+use Rattle.lab_core.proofs.PlayTells.{play_tells}
+use Rattle.lab_core.proofs.Refusals.{step_idle}
 use Rattle.lab_core.proofs.StepLaws.{was, by_one, no_steps_refused, no_steps_told, step_once, swap_tells}
 use Rattle.lab_core.proofs.ListSteps.{all_drills, all_stay, all_stop, plain_step}
 use Rattle.lab_core.proofs.OuterSteps.{tells_alone, tells_stop, tells_unread}
@@ -39,8 +42,18 @@ returns-clause-drills c = λ terms at set s session command opening own after is
 pub returns-clause-stops : goal.returns-clause-stops
 returns-clause-stops c = λ terms at set s session command opening own after reply step is. tells_stop command opening own reply (all_stop terms at set s session opening own after command reply is step)
 
+pub returns-clause-served : goal.returns-clause-served
+returns-clause-served c = λ terms at set s session moment lines text opening own after served step is. batch_tells terms at set s session moment lines text opening own after served is step
+
+pub returns-clause-played : goal.returns-clause-played
+returns-clause-played c = λ terms at set s session exp name from until lines count text last closing blaming opening own after step is.
+    play_tells terms at set s session exp name from until lines count text last closing blaming opening own after is step
+
 pub returns-clause-unread : goal.returns-clause-unread
 returns-clause-unread c = λ terms at set s session command opening own after reply name step is. tells_unread command opening own reply name (all_stop terms at set s session opening own after command reply is step)
 
 pub returns-clause-alone : goal.returns-clause-alone
 returns-clause-alone c = λ terms at set s session command opening own after name step is. tells_alone command opening own (Unread name) name (all_stop terms at set s session opening own after command (Unread name) is step) refl
+
+pub returns-clause-idle : goal.returns-clause-idle
+returns-clause-idle c = λ terms at set s session command opening own after reply step is no_steps. step_idle terms at set s opening own after reply is no_steps command session step

@@ -22,6 +22,7 @@ commands-init g c =
       near = rw n.pending (omega arith);
       going = ([], going_none _ _ (g.T.Teller.written c.args.teller.now) refl, λ bytes is. covers_none bytes stand (ap (λ p. prepend_known p left) n.pending ∙ prepend_known-nil left ∙ is) n.ended n.taken n.lines, refl);
       read = omega arith;
+      calm = refl;
       write = omega arith;
     }
 
@@ -102,6 +103,7 @@ commands-preserved g c =
         took_more g.T.Teller.takes c.args.teller.now c.commands.teller c.answer_command.new.teller was.0 more.0 was.3 more.3,
       );
       read = omega (arith, e.later, inv.read);
+      calm = e.calm (λ is. absurd (cc is)) ∙ inv.calm;
       write = omega (arith, a.later, inv.write);
     }
 

@@ -21,6 +21,7 @@ invariant-commands g l =
           × ((bytes : List ℕ) → g.S.Source.left l.fn.source ≡ Some bytes → Covers (at_start bytes) (stand_of l.reader (g.S.Source.left l.source)) (commands_of begun))
           × Took g.T.Teller.takes l.fn.teller (replies_of begun) l.teller;
       read : g.S.Source.faults l.fn.source ≤ g.S.Source.faults l.source;
+      calm : g.S.Source.faults l.source ≡ g.S.Source.faults l.fn.source;
       write : g.T.Teller.faults l.fn.teller ≤ g.T.Teller.faults l.teller;
     }
 

@@ -1,4 +1,4 @@
-use Rattle.lab_top.proofs.RunLaws.{opened_rests, recovered_rests}
+use Rattle.lab_top.proofs.RunLaws.{opened_rests, recovered_beside, recovered_rests}
 use Rattle.lab_top.proofs.Answers.{opening_rests, opening_rests_one}
 use Rattle.lab_top.proofs.laws.recoveries.Goals as goal
 
@@ -13,3 +13,6 @@ returns-clause-beside c = λ trace piece s mid name to ended. opening_rests_one 
 
 pub returns-clause-recovered : goal.returns-clause-recovered
 returns-clause-recovered c = λ terms choices old new status before after b t done r told sound asks replied. recovered_rests terms choices old new status before after b t r told sound done asks replied
+
+pub returns-clause-recovered_beside : goal.returns-clause-recovered_beside
+returns-clause-recovered_beside c = λ terms choices old new status before after b t done stuck r told sound asks replied. recovered_beside terms choices old new status before after b t r told sound done stuck asks replied

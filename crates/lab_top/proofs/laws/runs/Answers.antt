@@ -1,9 +1,11 @@
+use Rattle.std.proofs.Common.{refl}
+use Rattle.script_text.specs.declared.reply.Reply.TheVariants.{Played, Served}
 use Rattle.swap_turns.proofs.Blank.{nothing_sound}
 use Rattle.lab_state.specs.Texts.{the_texts}
 use Rattle.lab_core.proofs.OuterSteps.{tells_stop}
 use Rattle.lab_top.proofs.Moving.{moves_first}
 use Rattle.lab_top.proofs.RunLaws.{are_kept, steps_told, swapped_in, undrilled_told}
-use Rattle.lab_top.proofs.Answers.{inside_told, stays_told}
+use Rattle.lab_top.proofs.Answers.{inside_told, lines_told, played_told, stays_told}
 use Rattle.lab_top.proofs.Scripts.{script_once}
 use Rattle.lab_top.proofs.laws.runs.Goals as goal
 
@@ -16,6 +18,14 @@ returns-clause-kept c = λ terms choices old new status before middle after t e 
 
 pub returns-clause-answered : goal.returns-clause-answered
 returns-clause-answered c = λ terms choices old new status before middle after b t reply r told sound replied. stays_told terms choices old new status before middle after b t r told sound reply replied
+
+pub returns-clause-lines : goal.returns-clause-lines
+returns-clause-lines c = λ terms choices old new status before middle after b t moment lines text served r told sound asks replied mild.
+    lines_told terms choices old new status before middle after b t r told sound (Served served) replied moment lines text served asks refl mild
+
+pub returns-clause-played : goal.returns-clause-played
+returns-clause-played c = λ terms choices old new status before middle after b t exp name text last from until lines count closing blaming r told sound asks replied mild.
+    played_told terms choices old new status before middle after b t r told sound (Played name count last closing blaming) replied exp name text last from until lines count closing blaming asks refl mild
 
 pub returns-clause-inside : goal.returns-clause-inside
 returns-clause-inside c = λ terms choices old new status before after b t exp text lines r told sound asks replied. inside_told terms choices old new status before after b t r told sound exp text lines asks replied

@@ -1,4 +1,4 @@
-use Rattle.std.proofs.Common.{◌≡◌, ℕ, sym, subst, ◌∙◌, arith}
+use Rattle.std.proofs.Common.{◌≡◌, ℕ, refl, sym, subst, ◌∙◌, arith}
 use Rattle.lab_io.specs.Passed.{stand_of}
 use Rattle.std.proofs.lemmas.Result.{err_from_is_err_and}
 use Rattle.script_text.specs.Taking.{IsBad}
@@ -10,6 +10,7 @@ lines-init g c = record {
   fault = λ h. h;
   skipped = λ ready. none_skipped _ ready.1;
   later = omega arith;
+  calm = refl;
   ahead = omega arith;
   taken = omega arith;
 }
@@ -60,6 +61,7 @@ lines-preserved g c =
       fault = λ h. c.in_ok-take_line.ensures.ok;
       skipped = λ ready. skipped_on _ _ _ _ (c.lines.invariant.skipped ready) some said;
       later = omega (arith, c.lines.invariant.later, c.take_line.ensures.later);
+      calm = c.in_ok-take_line.ensures.calm (λ is. absurd (cc is)) ∙ c.lines.invariant.calm;
       ahead = omega (arith, c.lines.invariant.ahead, c.take_line.ensures.ahead);
       taken = omega (arith, c.lines.invariant.taken, more);
     }

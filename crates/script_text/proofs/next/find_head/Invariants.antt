@@ -9,6 +9,7 @@ invariant-lines g l = record {
   fault : fault_of l.fn.lines ≡ None → fault_of l.lines ≡ None;
   skipped : IsReady l.fn.lines (g.S.Source.left l.fn.source) → Skipped (stand_of l.fn.lines (g.S.Source.left l.fn.source)) (stand_of l.lines (g.S.Source.left l.source));
   later : g.S.Source.faults l.fn.source ≤ g.S.Source.faults l.source;
+  calm : g.S.Source.faults l.source ≡ g.S.Source.faults l.fn.source;
   ahead : HoldsNoMore l.fn.lines l.lines;
   taken : taken_of l.fn.lines ≤ taken_of l.lines;
 }

@@ -1,4 +1,4 @@
-use Rattle.std.proofs.Common.{ℕ, List, [], ◌++◌, sym, ap, subst, ◌∙◌, arith}
+use Rattle.std.proofs.Common.{ℕ, List, [], ◌++◌, refl, sym, ap, subst, ◌∙◌, arith}
 use Rattle.lab_io.specs.Passed.{stand_of}
 use Rattle.script_text.specs.Taking.{Blocked}
 use Rattle.script_text.specs.Blocks.{IsBlock}
@@ -13,6 +13,7 @@ loop-number-init g c =
       block = λ ready. subst (λ (t : List ℕ). Blocked at at 0 t) (sym c.new-block.ensures) (none_blocked at ready.1);
       lines = λ few. subst (λ (t : List ℕ). IsBlock 0 t) (sym c.new-block.ensures) none_block;
       later = omega arith;
+      calm = refl;
       ahead = omega arith;
       taken = omega arith;
     }
@@ -48,6 +49,7 @@ loop-number-preserved g c =
       block = λ ready. blocked_on _ _ _ c.loop-number._number c.loop-number.block c.push_bytes.new.self _ c.in-Some.line (c.loop-number.invariant.block ready) some with_line c.in_ok-push-in-Some.ensures.ok;
       lines = λ few. block_on c.loop-number._number c.loop-number.block c.push_bytes.new.self _ c.in-Some.line (c.loop-number.invariant.lines few) (omega (arith, few)) short with_line c.in_ok-push-in-Some.ensures.ok;
       later = omega (arith, c.loop-number.invariant.later, c.take_line.ensures.later);
+      calm = c.in_ok-take_line.ensures.calm (λ is. absurd (cc is)) ∙ c.loop-number.invariant.calm;
       ahead = omega (arith, c.loop-number.invariant.ahead, c.take_line.ensures.ahead);
       taken = omega (arith, c.loop-number.invariant.taken, more);
     }

@@ -11,6 +11,7 @@ invariant-loop-number g l = record {
   block : IsReady l.fn.lines (g.S.Source.left l.fn.source) → Blocked (stand_of l.fn.lines (g.S.Source.left l.fn.source)) (stand_of l.lines (g.S.Source.left l.source)) l._number l.block;
   lines : l.count ≤ 16384 → IsBlock l._number l.block;
   later : g.S.Source.faults l.fn.source ≤ g.S.Source.faults l.source;
+  calm : g.S.Source.faults l.source ≡ g.S.Source.faults l.fn.source;
   ahead : HoldsNoMore l.fn.lines l.lines;
   taken : taken_of l.fn.lines ≤ taken_of l.lines;
 }

@@ -1,11 +1,11 @@
-use Rattle.std.proofs.Common.{sym, ap, ◌∙◌, subst}
+use Rattle.std.proofs.Common.{Ok, Err, refl, sym, ap, ◌∙◌, subst}
 use Rattle.swap_txn.specs.States.{View}
-use Rattle.swap_txn.specs.Facts.{exp_of}
-use Rattle.swap_txn.specs.declared.live.Live.{Live}
 use Rattle.plant.specs.Seen.{Seen}
 use Rattle.swap_turns.specs.Beginning.{IsAfterBegin}
 use Rattle.swap_turns.proofs.Beginning.{begin_after}
-use Rattle.swap_mgr.specs.Open.{HasOpen}
+use Rattle.swap_mgr.specs.declared.progress.NotOpened.TheVariants as unopened
+use Rattle.swap_mgr.specs.Managing.{IsToldBy}
+use Rattle.swap_mgr.specs.Open.{HasOpen, IsWith}
 use Rattle.swap_mgr.proofs.Holding.{IsBegunAs, begun_as, stuck_as, opened_one}
 use Rattle.swap_mgr.proofs.manager.Manager.open.Goals as goal
 
@@ -35,11 +35,20 @@ returns-in-Stopped-clause-begun g c = λ t s u opens p begin move working holds 
     subst (λ x. IsAfterBegin t p s u begin move was now c.args.journal.now c.turn.new.journal x) c.in-Stopped.is
     (begin_after t p s u begin move was now c.args.journal.now c.turn.new.journal c.args.planned c.turn.result working.work may of_it moves plan (c.turn.ensures.begins begin body))
 
+pub returns-in-Next-clause-begins : goal.returns-in-Next-clause-begins
+returns-in-Next-clause-begins g c = λ begin body. (c.turn.result, c.turn.ensures.begins begin body, subst (λ x. IsToldBy x (Ok tt)) (sym c.in-Next.is) tt)
+
+pub returns-in-Stuck-clause-begins : goal.returns-in-Stuck-clause-begins
+returns-in-Stuck-clause-begins g c = λ begin body. (c.turn.result, c.turn.ensures.begins begin body, subst (λ x. IsToldBy x (Err (unopened.Stuck c.in-Stuck.what))) (sym c.in-Stuck.is) refl)
+
+pub returns-in-Stopped-clause-begins : goal.returns-in-Stopped-clause-begins
+returns-in-Stopped-clause-begins g c = λ begin body. (c.turn.result, c.turn.ensures.begins begin body, subst (λ x. IsToldBy x (Err unopened.Stopped)) (sym c.in-Stopped.is) tt)
+
 pub returns-in-Next-clause-held : goal.returns-in-Next-clause-held
 returns-in-Next-clause-held g c =
     let entry = c.exp-exp.ensures.begin in
     let state = subst (λ x. IsBegunAs c.args.planned x) c.in-Next.is (begun_as c.args.planned entry.0 (g.P.Plant.seen c.args.plant.now) (g.P.Plant.seen c.turn.new.plant) c.args.journal.now c.turn.new.journal c.turn.result (c.turn.ensures.begins entry.0 entry.1)) in
-    (c.in-Next.live, c.put.ensures, ap (λ (x : Live). exp_of x) state)
+    subst (λ x. IsWith c.args.self.now x c.put.new.self) state c.put.ensures
 
 pub returns-in-Stuck-clause-stuck : goal.returns-in-Stuck-clause-stuck
 returns-in-Stuck-clause-stuck g c = λ what is.
