@@ -1,7 +1,7 @@
 -- The canonical text of a mapping is read as the mapping.
-use Rattle.std.proofs.Common.{◌≡◌, ◌≢◌, ℕ, zero, suc, ◌+◌, ◌<◌, ◌≤◌, Bool, true, false, not, cond, eqb, ◌&&◌, ◌||◌, List, [], ◌∷◌, ◌++◌, length, get_or, map, set, Option, Some, None, Result, Ok, Err, refl, sym, ap, subst, ◌∙◌, arith, inl, inr, append_assoc, length-append}
+use Rattle.std.proofs.Common.{◌≡◌, ℕ, zero, suc, ◌+◌, ◌<◌, ◌≤◌, Bool, true, false, not, cond, eqb, ◌||◌, List, [], ◌∷◌, ◌++◌, length, get_or, map, set, Option, Some, None, Result, Ok, Err, refl, sym, ap, subst, ◌∙◌, arith, inl, inr, append_assoc, length-append}
 use Rattle.std.specs.Prelude.{codes, decimal, is_some, option_map, replicate}
-use Rattle.std.specs.List.{list_all, zip, position}
+use Rattle.std.specs.List.{list_all, zip}
 use Rattle.std.proofs.Math.ListN.{get_or-map}
 use Rattle.std.proofs.lemmas.Bool.{and_parts, lt-ltb}
 use Rattle.std.proofs.lemmas.List.{append-nil, length-map, map-append, get_or_default}
@@ -9,14 +9,13 @@ use Rattle.std.proofs.Math.Seq.{get_or-append_seam, set-append_seam}
 use Rattle.lab_base.specs.Names.{is_name, same_name}
 use Rattle.lab_base.specs.Kinds.{both_of}
 use Rattle.lab_base.specs.Texts.{lines_of}
-use Rattle.lab_base.specs.Lists.{Has, AllDiffer}
+use Rattle.lab_base.specs.Lists.{Has}
 use Rattle.lab_base.specs.declared.fault.Kind.{Kind}
 use Rattle.lab_base.specs.declared.fault.Kind.TheVariants as kinds
 use Rattle.lab_base.specs.declared.ids.NodeId.{NodeId}
 use Rattle.lab_base.specs.declared.ids.IfaceId.{IfaceId}
-use Rattle.lab_base.proofs.Members.{Has-append, Has-map, Apart-right, Has-get_or}
-use Rattle.lab_base.proofs.Bytes.{bytes_same, bytes_turned, bytes_self}
-use Rattle.lab_base.proofs.Numbers.{eqb_turned}
+use Rattle.lab_base.proofs.Members.{Has-append, Has-map, Has-get_or}
+use Rattle.lab_base.proofs.Bytes.{bytes_same}
 use Rattle.virt_topo.specs.Wirings.{no_virt}
 use Rattle.line_text.specs.Reading.{and_then}
 use Rattle.line_text.specs.Printing.{with_number}
@@ -25,10 +24,7 @@ use Rattle.line_text.proofs.LinesAgain.{IsPrinted, Adds, adds_append, read_again
 use Rattle.line_text.proofs.Plain.{none, more}
 use Rattle.phys_lab.specs.Labs.{Lab}
 use Rattle.phys_lab.specs.Kept.{IsLab}
-use Rattle.phys_lab.specs.Keys.{same_iface, name_on_node}
-use Rattle.phys_lab.specs.declared.parts.Node.{Node}
 use Rattle.phys_lab.specs.declared.parts.Iface.{Iface}
-use Rattle.phys_lab.proofs.KeptLaws.{same_iface-self, same_iface-true}
 use Rattle.phys_lab.specs.Faults.{is_type}
 use Rattle.virt_topo.specs.declared.wiring.VirtNode.{VirtNode}
 use Rattle.virt_topo.specs.declared.wiring.Wiring.{Wiring}
@@ -48,8 +44,9 @@ use Rattle.solution_text.specs.CanonicalSolution.{end_keys, place_fields, iface_
 use Rattle.top_text.proofs.SoundTests.{sound_tests}
 use Rattle.top_text.proofs.PipeCount.{ends_of}
 use Rattle.solution_text.proofs.EndKeys.{count_few, number_at, keys_length}
+use Rattle.solution_text.proofs.OwnNames.{node_own, iface_own}
 use Rattle.solution_text.proofs.ZipLaws.{zip_length}
-use Rattle.top_text.proofs.OwnPlaces.{own_place, differ_once, virt_own}
+use Rattle.top_text.proofs.OwnPlaces.{virt_own}
 
 -- LINES OF A LIST, WITH WHAT IS STILL TO COME
 
@@ -117,22 +114,6 @@ pair_at {X} {Y} (f ∷ front) z rest (x ∷ xs) (y ∷ ys) e =
     let same : front ++ z ∷ rest ≡ zip xs ys = cc e in
     let p = pair_at front z rest xs ys same in
     record { first = p.first; second = p.second; within = omega (arith, p.within); beside = omega (arith, p.beside) }
-
--- WHAT PRINTED NAMES NAME
-
-node_own : (lab : Lab) → IsLab lab → (n : NodeId) → n.0 < length lab.nodes → node_named lab (node_at lab n).name ≡ Some n.0
-node_own lab is n lt =
-    let differ : AllDiffer (map (λ (n : Node). n.name) lab.nodes) = Apart-right (λ a b. a ≢ b) lab.switches (map (λ (n : Node). n.name) lab.nodes) is.devices_differ in
-    ap (λ (k : List ℕ). position (λ m. same_name k m.name) lab.nodes) (sym (get_or-map (λ (m : Node). m.name) lab.nodes n.0 no_node))
-    ∙ own_place same_name bytes_self bytes_turned (λ (m : Node). m.name) lab.nodes n.0 [] (differ_once same_name bytes_self bytes_turned (λ (m : Node). m.name) bytes_same lab.nodes differ) lt
-
-iface_own : (lab : Lab) → IsLab lab → (i : IfaceId) → i.0 < length lab.ifaces → iface_on lab (iface_at lab i).node.0 (iface_at lab i).name ≡ Some i.0
-iface_own lab is i lt =
-    ap (λ (k : NodeId × List ℕ). position (λ y. same_iface k (name_on_node y)) lab.ifaces) (sym (get_or-map name_on_node lab.ifaces i.0 no_iface))
-    ∙ own_place same_iface same_iface-self symm_iface name_on_node lab.ifaces i.0 (name_on_node no_iface) (differ_once same_iface same_iface-self symm_iface name_on_node same_iface-true lab.ifaces is.names_differ) lt
-  where
-    symm_iface : (a b : NodeId × List ℕ) → same_iface a b ≡ same_iface b a
-    symm_iface a b = λ j. eqb_turned a.0.0 b.0.0 j && bytes_turned a.1 b.1 j
 
 -- NAMES THAT ARE PRINTED ARE NAMES
 

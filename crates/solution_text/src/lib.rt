@@ -1,11 +1,13 @@
 //! Mappings as solution text: reading one, with the first fault and its line, and printing the canonical one.
 #![tactic(auto)]
 
+mod by_node;
 mod ends;
 mod given;
 mod laws;
 mod lines;
 mod names;
+mod near;
 mod print;
 mod read;
 

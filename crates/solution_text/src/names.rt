@@ -1,19 +1,31 @@
-// Tables of the names in a solution text.
+// The names in a solution text, and their numbers.
 ghost use Rattle.std.specs.Prelude.{◌≡◌, ◌<◌, ◌^◌, ℕ, List, map, position, length, None, IfOk, IfSome};
 ghost use Rattle.lab_base.specs.Names.{same_name};
 ghost use Rattle.indexmap.specs.IndexMap.{get};
 ghost use Rattle.virt_topo.specs.Soundness.{end_of};
 ghost use Rattle.top_text.specs.Adding.{virt_named};
 ghost use Rattle.solution_text.specs.Solutions.{node_named, end_by, end_named, iface_on, iface_by, iface_named};
-ghost use Rattle.solution_text.specs.Names.{AreNames, same_key, same_named};
+ghost use Rattle.solution_text.specs.Names.{AreNames, AreTables, same_key};
 
+use crate::by_node::NodeIfaces;
 use crate::ends::end_keys;
+use crate::near::{find_iface, find_node};
 use indexmap::IndexMap;
 use lab_base::{Items, Memory, Name};
-use phys_lab::{Iface, Lab, Node};
+use phys_lab::{Lab, Node};
 use std::alloc::Global;
 use std::hash::Hash;
 use virt_topo::{VirtNode, Wiring};
+
+/// The most virtual nodes and ends of a wiring whose names are looked for one by one: tables of a lab cost more.
+const FEW_NAMES: usize = 12;
+
+/// By name the numbers of the nodes of a lab, and by node its interfaces.
+#[derive(Drop)]
+pub(crate) struct LabTables {
+    pub(crate) nodes: IndexMap<Name, usize>,
+    pub(crate) ifaces: NodeIfaces,
+}
 
 /// A lab and a wiring, with tables of the numbers of their named parts.
 #[derive(Drop)]
@@ -23,9 +35,8 @@ pub(crate) struct Names<'a> {
     pub(crate) virts: IndexMap<Name, usize>,
     /// By virtual node and number among its ends, the number of an end.
     pub(crate) ends: IndexMap<(usize, usize), usize>,
-    pub(crate) nodes: IndexMap<Name, usize>,
-    /// By node and name on it, the number of an interface.
-    pub(crate) ifaces: IndexMap<(usize, Name), usize>,
+    /// None for a small wiring, whose few names are looked for one by one.
+    pub(crate) tables: Option<LabTables>,
 }
 
 /// By key, the number of the first item with that key.
@@ -62,16 +73,6 @@ fn node_names(alloc: Global, nodes: &[Node]) -> Result<Items<Name>, Memory>
     Ok(names)
 }
 
-fn iface_names(alloc: Global, ifaces: &[Iface]) -> Result<Items<(usize, Name)>, Memory>
-    ensures { IfOk result (λ names. names ≡ map (λ i. (i.node.0, i.name)) ifaces.now) }
-{
-    let mut names = Items::new(alloc);
-    for iface in ifaces {
-        names.push((usize::from(iface.node.0), iface.name))?;
-    }
-    Ok(names)
-}
-
 fn virt_table(alloc: Global, wiring: &Wiring) -> Result<IndexMap<Name, usize>, Memory>
     ensures { IfOk result (λ table. (name : List ℕ) → get same_name table name ≡ virt_named wiring.now name) }
 {
@@ -93,11 +94,22 @@ fn node_table(alloc: Global, lab: &Lab) -> Result<IndexMap<Name, usize>, Memory>
     numbered(alloc, names.as_slice())
 }
 
-fn iface_table(alloc: Global, lab: &Lab) -> Result<IndexMap<(usize, Name), usize>, Memory>
-    ensures { IfOk result (λ table. (key : ℕ × List ℕ) → get same_named table key ≡ iface_on lab.now key.0 key.1) }
+fn lab_tables(alloc: Global, lab: &Lab) -> Result<LabTables, Memory>
+    ensures { IfOk result (AreTables lab.now) }
 {
-    let names = iface_names(alloc, lab.ifaces())?;
-    numbered(alloc, names.as_slice())
+    let nodes = node_table(alloc, lab)?;
+    let ifaces = NodeIfaces::new(alloc, lab)?;
+    Ok(LabTables { nodes, ifaces })
+}
+
+fn tables_for(alloc: Global, lab: &Lab, count: usize) -> Result<Option<LabTables>, Memory>
+    ensures { IfOk result (λ tables. IfSome tables (AreTables lab.now)) }
+{
+    if count <= FEW_NAMES {
+        return Ok(None);
+    }
+    let tables = lab_tables(alloc, lab)?;
+    Ok(Some(tables))
 }
 
 /// The tables of a lab and a wiring.
@@ -112,15 +124,13 @@ pub(crate) fn names_of<'a>(
 {
     let virts = virt_table(alloc, wiring)?;
     let ends = end_table(alloc, wiring)?;
-    let nodes = node_table(alloc, lab)?;
-    let ifaces = iface_table(alloc, lab)?;
+    let tables = tables_for(alloc, lab, virts.len().saturating_add(ends.len()))?;
     Ok(Names {
         lab,
         wiring,
         virts,
         ends,
-        nodes,
-        ifaces,
+        tables,
     })
 }
 
@@ -139,7 +149,10 @@ impl Names<'_> {
         ensures named { result ≡ node_named self.now.lab.now name }
         ensures within { IfSome result (λ n. n < length self.now.lab.now.nodes) }
     {
-        self.nodes.get(&name).copied()
+        match &self.tables {
+            Some(tables) => tables.nodes.get(&name).copied(),
+            None => find_node(self.lab, name),
+        }
     }
 
     fn end_by(&self, virt: Option<usize>, k: u16) -> Option<usize>
@@ -161,12 +174,24 @@ impl Names<'_> {
         self.end_by(virt, k)
     }
 
+    fn iface_on(&self, node: usize, name: Name) -> Option<usize>
+        requires names { AreNames self.now }
+        requires node { node < length self.now.lab.now.nodes }
+        ensures { result ≡ iface_on self.now.lab.now node name }
+    {
+        match &self.tables {
+            Some(tables) => tables.ifaces.find(self.lab, node, name),
+            None => find_iface(self.lab, node, name),
+        }
+    }
+
     fn iface_by(&self, node: Option<usize>, name: Name) -> Option<usize>
-        requires { AreNames self.now }
+        requires names { AreNames self.now }
+        requires node { IfSome node (λ n. n < length self.now.lab.now.nodes) }
         ensures { result ≡ iface_by self.now.lab.now name node }
     {
         match node {
-            Some(node) => self.ifaces.get(&(node, name)).copied(),
+            Some(node) => self.iface_on(node, name),
             None => None,
         }
     }

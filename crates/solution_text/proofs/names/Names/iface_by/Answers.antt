@@ -3,7 +3,4 @@ use Rattle.solution_text.specs.Solutions.{iface_by}
 use Rattle.solution_text.proofs.names.Names.iface_by.Goals as goal
 
 pub returns-in-Some : goal.returns-in-Some
-returns-in-Some c =
-    let names = c.args.self.now in
-    c.copied.ensures ∙ c.get.ensures.value ∙ c.requires.ifaces (c.in-Some.node, c.args.name)
-    ∙ ap (λ (v : Option ℕ). iface_by names.lab.now c.args.name v) (sym c.in-Some.is)
+returns-in-Some c = c.iface_on.ensures ∙ ap (λ (v : Option ℕ). iface_by c.args.self.now.lab.now c.args.name v) (sym c.in-Some.is)
