@@ -86,6 +86,29 @@ fn a_side_refuses_what_is_beyond_it(rt: HostRuntime) -> Result<(), Fail> {
     Ok(())
 }
 
+fn held_over(lab: &mut FileLab<HostRuntime>, other: &mut FileLab<HostRuntime>) -> Result<(), Fail> {
+    same(lab.write(Side::A, 0, b"own".as_slice()), Ok(()), "a write")?;
+    same(other.length(Side::A), Err(Fault::Failed), "a length")?;
+    same(
+        other.write(Side::A, 0, b"other".as_slice()),
+        Err(Fault::Failed),
+        "a write of another",
+    )?;
+    same(lab.length(Side::A), Ok(3), "the first one's length")
+}
+
+#[test]
+fn a_folder_serves_one_plant(rt: HostRuntime) -> Result<(), Fail> {
+    let mut lab = FileLab::new(&rt, "held.lab")?;
+    let mut other = FileLab::new(&rt, "held.lab")?;
+    let told = held_over(&mut lab, &mut other);
+    drop(lab);
+    drop(other);
+    told?;
+    fs::remove_dir_all(&rt, "held.lab")?;
+    Ok(())
+}
+
 /// The tables of the commands below.
 const TABLES: &[u8] =
     b"row s1 1 100\npipe pc1 2 eth0 eth1 1000 20 3 100 0 0\nnode pc1 TBSETUP linux\n";

@@ -1,15 +1,14 @@
 -- Answers fit their commands, and what a plant that tells nothing adds.
-use Rattle.std.proofs.Common.{◌≢◌, [], ◌∷◌, false, true, List, Result, Ok, Err, refl, inl}
-use Rattle.std.specs.Prelude.{ℕ, IfOk}
+use Rattle.std.proofs.Common.{◌≢◌, [], ◌∷◌, false, List, Result, Ok, Err, refl, inl}
+use Rattle.std.specs.Prelude.{ℕ}
 use Rattle.plant.specs.declared.device.DeviceOp.{DeviceOp}
 use Rattle.plant.specs.declared.device.DeviceOp.TheVariants.{Join, Leave, Shape, Load, Boot as BootIt, Poll, Wipe}
-use Rattle.plant.specs.declared.device.Answer.{Answer}
 use Rattle.plant.specs.declared.device.Fault.{Fault}
 use Rattle.plant.specs.declared.device.Fault.TheVariants.{Failed, Stopped}
 use Rattle.plant.specs.declared.step.Side.{Side}
-use Rattle.plant.specs.Calls.{Fits, CommandSteps}
+use Rattle.plant.specs.Calls.{Fits}
 use Rattle.plant.specs.DiskCalls.{WriteSteps, SyncSteps, CutSteps}
-use Rattle.plant.specs.Events.{Event, Wrote, Synced, Cut, Missed, Did}
+use Rattle.plant.specs.Events.{Event, Wrote, Synced, Cut, Missed}
 use Rattle.plant_file.specs.declared.entry.Entry.{Entry}
 use Rattle.plant_file.specs.Entries.{moved, state_in, answer_of}
 
@@ -36,8 +35,3 @@ pub cut_steps : (side : Side) (size : ℕ) (result : Result (Unit {0}) Fault) �
 cut_steps side size (Ok done) runs = (Cut side size ∷ [], refl)
 cut_steps side size (Err Failed) runs = (Missed side ∷ [], inl refl)
 cut_steps side size (Err Stopped) runs = absurd (runs refl)
-
-pub command_steps : (op : DeviceOp) (result : Result Answer Fault) → result ≢ Err Stopped → IfOk result (Fits op) → (steps : List Event) × CommandSteps op false result steps
-command_steps op (Ok answer) runs fits = (Did op true (Ok answer) ∷ [], (fits, refl))
-command_steps op (Err Failed) runs fits = (Did op true (Err Failed) ∷ [], (true, refl))
-command_steps op (Err Stopped) runs fits = absurd (runs refl)

@@ -1,15 +1,16 @@
--- A plant in files as contracts see it: it tells nothing, and never stops; and the names of its files.
-use Rattle.std.specs.Prelude.{false, None}
+-- A plant in a folder as contracts see it.
+use Rattle.std.specs.Prelude.{Bool, Option, Some, None, IfSome}
+use Rattle.plant.specs.Disks.{disk, ArePossible}
 use Rattle.plant.specs.Seen.{Seen}
-use Rattle.plant_file.specs.declared.lab.FileLab.{FileLab}
-use Rattle.plant_file.specs.Names.{Names}
+use Rattle.plant.specs.declared.moment.Faults.{Faults}
+use Rattle.plant.specs.declared.step.Side.TheVariants.{A, B}
+use Rattle.plant_file.specs.Folders.{Held, past_of}
 
-abbrev pub seen_of : {R F D : Type 0} → FileLab R F D → Seen
-seen_of lab = record { told = None; faults = lab.faults; stopped = false }
+abbrev pub seen_by : Option Held → Bool → Faults → Seen
+seen_by held stopped faults = record { told = past_of held; faults = faults; stopped = stopped }
 
--- before any call
-abbrev pub untouched : Seen
-untouched = record { told = None; faults = record { disk = 0; devices = 0 }; stopped = false }
-
-abbrev pub names_of : {R F D : Type 0} → FileLab R F D → Names
-names_of lab = lab.folder.paths
+-- what the sides read as is possible
+pub reads_possible_by : (held : Option Held) → IfSome held (λ h. ArePossible h.past.trace (disk A h.past.trace).reads (disk B h.past.trace).reads)
+    → IfSome (past_of held) (λ t. ArePossible t.trace (disk A t.trace).reads (disk B t.trace).reads)
+reads_possible_by None h = h
+reads_possible_by (Some held) h = h

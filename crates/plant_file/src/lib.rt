@@ -3,12 +3,9 @@
 
 mod answers;
 mod boots;
-mod commands;
 mod entry;
-mod files;
 mod folder;
-mod folder_tables;
-mod lab;
+mod folder_lab;
 mod lab_plant;
 mod lab_tables;
 mod laws;
@@ -19,12 +16,19 @@ mod obey;
 mod paths;
 mod print;
 mod read;
+mod readings;
+mod ready;
+mod sending;
+mod std_files;
+mod std_folder;
+mod std_texts;
 mod tables;
 mod tells;
-mod texts;
 
 pub use entry::{Entry, Key};
-pub use lab::FileLab;
-pub use laws::{tables_are_read_back, tables_hold_a_world};
+pub use folder::Folder;
+pub use folder_lab::{FileLab, FolderLab};
+pub use laws::{folders_keep, tables_are_read_back, tables_hold_a_world};
 pub use lines_kept::{Line, Spot};
+pub use std_folder::StdFolder;
 pub use tables::{Obeyed, Tables};

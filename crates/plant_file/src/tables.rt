@@ -1,10 +1,11 @@
 // The tables, with their text.
-ghost use Rattle.std.specs.Prelude.{◌≡◌, ◌<◌, ◌++◌, ◌∷◌, [], Ok, OnOk, OnErr, length};
-ghost use Rattle.std.specs.List.{find};
+ghost use Rattle.std.specs.Prelude.{◌≡◌, ◌<◌, ◌++◌, ◌∷◌, [], Ok, OnOk, OnErr, length, true};
+ghost use Rattle.std.specs.List.{find, list_all};
 ghost use Rattle.line_text.specs.Refusals.{Reads};
 ghost use Rattle.plant_file.specs.Entries.{is_keyed, without};
 ghost use Rattle.plant_file.specs.Kept.{entries_of};
 ghost use Rattle.plant_file.specs.Lines.{tables_text, tables_of_text};
+ghost use Rattle.plant_file.specs.Printable.{is_printable};
 
 use crate::entry::{Entry, Key};
 use crate::lines_kept::{Line, find_line, put_line, take_out};
@@ -73,7 +74,8 @@ impl Tables {
 
     /// The lines, each with its entry.
     pub(crate) fn lines(&self) -> &[Line]
-        ensures { entries_of result.now ≡ self.now }
+        ensures entries { entries_of result.now ≡ self.now }
+        ensures printable { list_all is_printable self.now ≡ true }
     {
         self.lines.as_slice()
     }

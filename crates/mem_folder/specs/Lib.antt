@@ -1,0 +1,3 @@
+pub mod MemFolders
+pub mod MemPossible
+pub mod MemTold

@@ -1,0 +1,81 @@
+ghost use Rattle.std.specs.Prelude.{◌≡◌, true, IfOk};
+ghost use Rattle.plant_file.specs.Names.{names_in};
+ghost use Rattle.std.specs.Option.{ForSome};
+ghost use Rattle.plant_file.specs.Folders.{IsDurable};
+ghost use Rattle.plant_file.specs.Standing.{Keeps, AreOf};
+
+use crate::folder::Folder;
+use crate::std_folder::StdFolder;
+use crate::tables::Tables;
+use lab_base::Memory;
+use plant::Faults;
+use std::alloc::{AllocGlobal, Global};
+use std::fs::File;
+use std::rt::Files;
+
+/// A plant in the files of a folder. It takes no drills. It tells its past where the folder does.
+#[derive(Drop)]
+pub struct FolderLab<F: Folder + Drop> {
+    pub(crate) folder: F,
+    pub(crate) alloc: Global,
+    /// The tables of the folder's text.
+    pub(crate) kept: Option<Tables>,
+    /// Whether the text is known to be durable.
+    pub(crate) sure: bool,
+    pub(crate) faults: Faults,
+    ghost fits: { ForSome (F.told folder) Keeps },
+    ghost kept_are: { ForSome kept (λ tables. ForSome (F.told folder) (AreOf tables)) },
+    ghost surely: { ForSome (F.told folder) (λ h. sure ≡ true → IsDurable h) },
+}
+
+/// The plant of a folder of std's files.
+pub type FileLab<R> = FolderLab<StdFolder<R>>;
+
+impl<R: Files<File = File> + AllocGlobal + Clone + Drop> FolderLab<StdFolder<R>> {
+    /// The plant of a folder. It opens nothing.
+    pub fn new(rt: &R, dir: &str) -> Result<FolderLab<StdFolder<R>>, Memory>
+        ensures faults { IfOk result (λ lab. lab.faults ≡ record { disk = 0; devices = 0 }) }
+        ensures names { IfOk result (λ lab. lab.folder.paths ≡ names_in dir.now) }
+    {
+        let rt = rt.clone()?;
+        let alloc = rt.alloc();
+        Ok(FolderLab {
+            folder: StdFolder::new(rt, dir)?,
+            alloc,
+            kept: None,
+            sure: false,
+            faults: Faults {
+                disk: 0,
+                devices: 0,
+            },
+        })
+    }
+}
+
+impl<F: Folder + Drop> FolderLab<F> {
+    /// The plant of a folder.
+    pub fn over(alloc: Global, folder: F) -> FolderLab<F>
+        requires { ForSome (F.told folder) Keeps }
+        ensures folder { result.folder ≡ folder }
+        ensures faults { result.faults ≡ record { disk = 0; devices = 0 } }
+    {
+        FolderLab {
+            folder,
+            alloc,
+            kept: None,
+            sure: false,
+            faults: Faults {
+                disk: 0,
+                devices: 0,
+            },
+        }
+    }
+
+    /// The folder, which another program may take.
+    pub fn into_folder(self) -> F
+        ensures folder { result ≡ self.folder }
+        ensures keeps { ForSome (F.told result) Keeps }
+    {
+        self.folder
+    }
+}
