@@ -2,3 +2,5 @@ mod Firsts
 mod Colours
 mod Looking
 mod Sums
+mod Lost
+mod Holes

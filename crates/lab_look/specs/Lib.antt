@@ -1,6 +1,7 @@
 pub mod Seats
 pub mod Seen
 pub mod Looks
+pub mod Beside
 pub mod Reports
 pub mod Told
 pub mod Shows

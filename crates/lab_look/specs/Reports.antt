@@ -14,6 +14,9 @@ use Rattle.lab_look.specs.declared.report.SideReport.{SideReport}
 use Rattle.lab_look.specs.declared.report.Standing.{Standing}
 use Rattle.lab_look.specs.declared.report.Standing.TheVariants as standings
 use Rattle.lab_look.specs.declared.report.Report.{Report}
+use Rattle.lab_look.specs.declared.beside.Beside.{Beside}
+use Rattle.lab_look.specs.declared.beside.Beside.TheVariants.{Lost}
+use Rattle.lab_look.specs.Beside.{beside_of, packed_bytes}
 use Rattle.lab_look.specs.Looks.{HasLab, HasWrong}
 
 abbrev pub is_headed : Head → Bool
@@ -40,10 +43,11 @@ pub record IsSideReport (bytes : List ℕ) (r : SideReport) : Type 0 where
   pub cut_is : r.cut ≡ is_cut bytes
   pub shut_is : IsShut bytes r.shut
 
--- where the journal stands, and the whole records behind its closed gate
+-- where the journal stands, the whole records behind its closed gate, and what stands on the other side
 abbrev pub IsStanding : List ℕ → List ℕ → Standing → Type 0
 IsStanding a b standings.New = live (head a) (head b) ≡ New
-IsStanding a b (standings.On side w found) = (s : LabState) × HasLab a b side w s × AreThere (of_side side a b) w.gate found
+IsStanding a b (standings.On side w found beside) = (s : LabState) × HasLab a b side w s × AreThere (of_side side a b) w.gate found
+    × (beside ≡ beside_of (of_side side a b) (of_side side b a) (packed_bytes s))
 IsStanding a b (standings.Bad side at before) = HasFault a b side at before
 IsStanding a b (standings.Wrong side at w) = HasWrong a b side at w
 
@@ -61,16 +65,24 @@ has_some (Some found) = nat_lt 0 (length found)
 abbrev pub has_more : List Found → Bool
 has_more found = nat_lt 1 (length found)
 
--- A SIDE SHOWS DAMAGE: it is cut in its header; or records stand behind its closed header, and the other side has no header. With one, this is
--- what a move of the journal leaves
+-- the side beside the live one has lost its header gate
+abbrev pub is_lost : Beside → Bool
+is_lost Lost = true
+is_lost beside = false
+
+abbrev pub has_lost : Standing → Bool
+has_lost (standings.On side w found beside) = is_lost beside
+has_lost standing = false
+
+-- A SIDE SHOWS DAMAGE: it is cut in its header; or records stand behind its closed header, and the other side has no header. With one, see there
 abbrev pub is_side_damaged : SideReport → SideReport → Bool
 is_side_damaged own other = own.cut || (has_some own.shut && not (is_headed other.head))
 
 -- WHERE THE JOURNAL STANDS SHOWS DAMAGE: it is none; or two or more whole records stand behind its closed gate, since one is what a kill in
--- an append leaves; or it is on no side yet, and the tables have lines
+-- an append leaves; or the side beside it is of a later epoch, and no move that was cut off; or it is on no side yet, and the tables have lines
 abbrev pub is_standing_damaged : Bool → Standing → Bool
 is_standing_damaged rows standings.New = rows
-is_standing_damaged rows (standings.On side w found) = has_more found
+is_standing_damaged rows (standings.On side w found beside) = has_more found || is_lost beside
 is_standing_damaged rows standing = true
 
 -- BOTH SIDES SHOW DAMAGE

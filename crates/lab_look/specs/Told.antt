@@ -15,7 +15,7 @@ use Rattle.lab_look.specs.declared.report.Standing.{Standing}
 use Rattle.lab_look.specs.declared.report.Standing.TheVariants as standings
 use Rattle.lab_look.specs.declared.report.Report.{Report}
 use Rattle.lab_look.specs.declared.told.Told.{Told}
-use Rattle.lab_look.specs.Reports.{is_headed, has_more, is_damaged, IsReport}
+use Rattle.lab_look.specs.Reports.{is_headed, has_more, has_lost, is_damaged, IsReport}
 
 -- what stands before a number or another part of a line
 unfoldable pub stands_on : List ℕ
@@ -82,12 +82,18 @@ shut_records still side found =
     if nat_lt 0 (length found) then damage still ++ side_word side ++ codes " has a closed header over these records\n" ++ record_lines found
     else side_word side ++ codes " has a closed header over no record\n"
 
-abbrev pub shut_words : Bool → Side → Bool → List Found → List ℕ
-shut_words still side headed found = if headed then side_word side ++ codes " has a closed header, as a move of the journal leaves it\n" else shut_records still side found
+-- behind one that was lost, and behind one that a move left
+abbrev pub left_words : Bool → Side → Bool → List Found → List ℕ
+left_words still side lost found =
+    if lost then damage still ++ side_word side ++ codes " has lost its header gate over these records\n" ++ record_lines found
+    else side_word side ++ codes " has a closed header, as a move of the journal leaves it\n"
 
-abbrev pub shut_lines : Bool → Side → Option (List Found) → Head → List ℕ
-shut_lines still side None other = []
-shut_lines still side (Some found) other = shut_words still side (is_headed other) found
+abbrev pub shut_words : Bool → Side → Bool → Bool → List Found → List ℕ
+shut_words still side headed lost found = if headed then left_words still side lost found else shut_records still side found
+
+abbrev pub shut_lines : Bool → Side → Option (List Found) → Head → Bool → List ℕ
+shut_lines still side None other lost = []
+shut_lines still side (Some found) other lost = shut_words still side (is_headed other) lost found
 
 -- the whole records behind the closed gate
 unfoldable pub behind_lines : Bool → List Found → List ℕ
@@ -114,7 +120,7 @@ on_lines still side w found = stands_lines side w.found ++ gate_line w.gate ++ b
 -- WHERE THE JOURNAL STANDS, record by record
 abbrev pub standing_lines : Bool → Bool → Standing → List ℕ
 standing_lines still rows standings.New = no_journal ++ rows_line still rows
-standing_lines still rows (standings.On side w found) = on_lines still side w found
+standing_lines still rows (standings.On side w found beside) = on_lines still side w found
 standing_lines still rows (standings.Bad side at before) = record_lines before ++ damage still ++ side_word side ++ codes " is bad at " ++ decimal at ++ 10 ∷ []
 standing_lines still rows (standings.Wrong side at w) = record_lines w.found ++ damage still ++ side_word side ++ codes " has a record that can't follow at " ++ decimal at ++ 10 ∷ []
 
@@ -124,8 +130,8 @@ verdict_of still damaged = if still then (if damaged then codes "damaged\n" else
 
 -- WHAT A CHECK TELLS
 abbrev pub told_text : Bool → Bool → Report → List ℕ
-told_text still rows r = side_lines still A r.a ++ side_lines still B r.b ++ shut_lines still A r.a.shut r.b.head ++ shut_lines still B r.b.shut r.a.head
-    ++ standing_lines still rows r.standing ++ verdict_of still (is_damaged rows r)
+told_text still rows r = side_lines still A r.a ++ side_lines still B r.b ++ shut_lines still A r.a.shut r.b.head (has_lost r.standing)
+    ++ shut_lines still B r.b.shut r.a.head (has_lost r.standing) ++ standing_lines still rows r.standing ++ verdict_of still (is_damaged rows r)
 
 -- THE CHECK of two sides: a text on what they hold, and damage where two looks in a row found both the same, and that shows damage
 pub record IsChecked (a b : List ℕ) (still rows : Bool) (t : Told) : Type 0 where

@@ -2,6 +2,7 @@
 ghost use Rattle.std.specs.Prelude.{◌≡◌, IfOk};
 ghost use Rattle.lab_look.specs.Reports.{is_shut, IsShut, IsSideReport, IsStanding, IsReport};
 
+use crate::beside::{Beside, stands_beside};
 use crate::looked::{Looked, look};
 use journal_disk::{FIRST, Head, head_of};
 use journal_rec::Found;
@@ -27,8 +28,8 @@ pub struct SideReport {
 pub enum Standing {
     /// On no side yet.
     New,
-    /// On that side, with its records up to a closed gate, and the whole records behind that gate.
-    On(Side, Walked, Items<Found>),
+    /// On that side, with its records up to a closed gate, the whole records behind that gate, and what stands on the other side.
+    On(Side, Walked, Items<Found>, Beside),
     /// It is none, since a side has a fault at a gate, or at 0 in its header; with the records before it.
     Bad(Side, u64, Items<Found>),
     /// It is none, since the record at that gate can't follow.
@@ -87,10 +88,11 @@ fn standing_of(alloc: Global, a: &[u8], b: &[u8]) -> Result<Standing, Memory>
         Ok(Looked::Bad(side, at, before)) => Ok(Standing::Bad(side, at, before)),
         Ok(Looked::Wrong(side, at, walked)) => Ok(Standing::Wrong(side, at, walked)),
         Ok(Looked::Found(side, walked, state)) => {
-            drop(state);
             let bytes = bytes_of(side, a, b);
+            let other = stands_beside(bytes, bytes_of(side, b, a), &state)?;
+            drop(state);
             let later = behind(alloc, bytes, walked.gate as usize)?;
-            Ok(Standing::On(side, walked, later))
+            Ok(Standing::On(side, walked, later, other))
         }
         Err(Memory) => Err(Memory),
     }

@@ -1,8 +1,9 @@
 // The lines that a check tells of both sides.
 ghost use Rattle.std.specs.Prelude.{◌≡◌, ◌++◌, ◌∷◌, [], nat_lt, length, codes, decimal, IfOk, OnOk};
-ghost use Rattle.lab_look.specs.Reports.{is_headed, has_some, has_more, is_side_damaged, is_standing_damaged, is_damaged};
-ghost use Rattle.lab_look.specs.Told.{stands_on, no_journal, epoch_words, changed_words, behind_words, side_word, way_word, kind_words, record_line, record_lines, damage, head_words, cut_line, side_lines, shut_records, shut_words, shut_lines, behind_lines, rows_line, stands_lines, closed_words, gate_line, on_lines, standing_lines, verdict_of, told_text, IsChecked};
+ghost use Rattle.lab_look.specs.Reports.{is_headed, has_some, has_more, is_lost, has_lost, is_side_damaged, is_standing_damaged, is_damaged};
+ghost use Rattle.lab_look.specs.Told.{stands_on, no_journal, epoch_words, changed_words, behind_words, side_word, way_word, kind_words, record_line, record_lines, damage, head_words, cut_line, side_lines, shut_records, left_words, shut_words, shut_lines, behind_lines, rows_line, stands_lines, closed_words, gate_line, on_lines, standing_lines, verdict_of, told_text, IsChecked};
 
+use crate::beside::Beside;
 use crate::report::{Report, SideReport, Standing, report_of};
 use journal_disk::Head;
 use journal_rec::{Found, Record, Way};
@@ -42,6 +43,24 @@ fn has_more(found: &Items<Found>) -> bool
     found.len() > 1
 }
 
+fn is_lost(beside: Beside) -> bool
+    ensures { result ≡ is_lost beside }
+{
+    match beside {
+        Beside::Lost => true,
+        _ => false,
+    }
+}
+
+fn has_lost(standing: &Standing) -> bool
+    ensures { result ≡ has_lost standing.now }
+{
+    match standing {
+        Standing::On(_, _, _, beside) => is_lost(*beside),
+        _ => false,
+    }
+}
+
 fn is_side_damaged(own: &SideReport, other: &SideReport) -> bool
     ensures { result ≡ is_side_damaged own.now other.now }
 {
@@ -53,7 +72,7 @@ fn is_standing_damaged(standing: &Standing, rows: bool) -> bool
 {
     match standing {
         Standing::New => rows,
-        Standing::On(_, _, found) => has_more(found),
+        Standing::On(_, _, found, beside) => has_more(found) || is_lost(*beside),
         Standing::Bad(_, _, _) | Standing::Wrong(_, _, _) => true,
     }
 }
@@ -256,21 +275,44 @@ fn push_shut_records(
     }
 }
 
-fn push_shut_words(
+fn push_left(
     text: &mut Text,
     still: bool,
     side: Side,
-    headed: bool,
+    lost: bool,
     found: &Items<Found>,
 ) -> Result<(), Memory>
-    ensures { OnOk result (text.new ≡ text.old ++ shut_words still side headed found.now) }
+    ensures { OnOk result (text.new ≡ text.old ++ left_words still side lost found.now) }
 {
-    if headed {
+    if lost {
+        push_damage(
+            text,
+            still,
+            side,
+            b" has lost its header gate over these records\n",
+        )?;
+        push_records(text, found)
+    } else {
         push_side(
             text,
             side,
             b" has a closed header, as a move of the journal leaves it\n",
         )
+    }
+}
+
+fn push_shut_words(
+    text: &mut Text,
+    still: bool,
+    side: Side,
+    headed: bool,
+    lost: bool,
+    found: &Items<Found>,
+) -> Result<(), Memory>
+    ensures { OnOk result (text.new ≡ text.old ++ shut_words still side headed lost found.now) }
+{
+    if headed {
+        push_left(text, still, side, lost, found)
     } else {
         push_shut_records(text, still, side, found)
     }
@@ -282,11 +324,12 @@ fn push_shut(
     side: Side,
     shut: &Option<Items<Found>>,
     other: Head,
+    lost: bool,
 ) -> Result<(), Memory>
-    ensures { OnOk result (text.new ≡ text.old ++ shut_lines still side shut.now other) }
+    ensures { OnOk result (text.new ≡ text.old ++ shut_lines still side shut.now other lost) }
 {
     match shut {
-        Some(found) => push_shut_words(text, still, side, is_headed(other), found),
+        Some(found) => push_shut_words(text, still, side, is_headed(other), lost, found),
         None => Ok(()),
     }
 }
@@ -397,7 +440,7 @@ fn push_standing(
             text.push_bytes(no_journal())?;
             push_rows(text, still, rows)
         }
-        Standing::On(side, walked, found) => push_on(text, still, *side, walked, found),
+        Standing::On(side, walked, found, _) => push_on(text, still, *side, walked, found),
         Standing::Bad(side, at, before) => {
             push_wrong(text, still, before, *side, b" is bad at ", *at)
         }
@@ -429,8 +472,23 @@ fn told_text(alloc: Global, report: &Report, still: bool, rows: bool) -> Result<
     let mut text = Text::new(alloc);
     push_side_lines(&mut text, still, Side::A, &report.a)?;
     push_side_lines(&mut text, still, Side::B, &report.b)?;
-    push_shut(&mut text, still, Side::A, &report.a.shut, report.b.head)?;
-    push_shut(&mut text, still, Side::B, &report.b.shut, report.a.head)?;
+    let lost = has_lost(&report.standing);
+    push_shut(
+        &mut text,
+        still,
+        Side::A,
+        &report.a.shut,
+        report.b.head,
+        lost,
+    )?;
+    push_shut(
+        &mut text,
+        still,
+        Side::B,
+        &report.b.shut,
+        report.a.head,
+        lost,
+    )?;
     push_standing(&mut text, still, rows, &report.standing)?;
     text.push_bytes(verdict_of(still, is_damaged(report, rows)))?;
     Ok(text)
