@@ -1,0 +1,1 @@
+"""What the trials of lab net are made of."""
