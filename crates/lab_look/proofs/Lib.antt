@@ -1,6 +1,8 @@
 mod Firsts
 mod Colours
-mod Looking
+pub mod Looking
 mod Sums
 mod Lost
 mod Holes
+pub mod Ends
+mod Beginning

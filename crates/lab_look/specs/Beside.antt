@@ -1,11 +1,14 @@
 -- The side beside the live one: a move that was cut off, or a side that has lost its header gate.
-use Rattle.std.specs.Prelude.{ℕ, Bool, true, false, ◌&&◌, ◌||◌, ◌==◌, ◌+◌, nat_lt, nat_le, if◌then◌else◌, List, [], ◌∷◌, ◌++◌, length, take, drop}
+use Rattle.std.specs.Prelude.{◌≡◌, ◌≤◌, ℕ, Bool, true, false, ◌&&◌, ◌||◌, ◌==◌, ◌+◌, nat_lt, nat_le, List, [], ◌∷◌, ◌++◌, length, take, drop}
+use Rattle.std.specs.List.{list_all}
+use Rattle.journal_rec.specs.declared.record.Record.{Record}
+use Rattle.journal_rec.specs.declared.record.Record.TheVariants.{Commit, Abort}
 use Rattle.journal_rec.specs.Packing.{blocks}
 use Rattle.journal_model.specs.Journals.{head}
 use Rattle.journal_disk.specs.declared.heads.Head.{Head}
 use Rattle.journal_disk.specs.declared.heads.Head.TheVariants.{Blank, Headed}
 use Rattle.journal_disk.specs.Heads.{seen}
-use Rattle.records_model.specs.Labs.{LabState}
+use Rattle.records_model.specs.Labs.{LabState, LabOf}
 use Rattle.lab_state.specs.Packing.{packed_of}
 use Rattle.lab_state.specs.Texts.{the_texts}
 use Rattle.lab_sides.specs.Heads.{shut_head}
@@ -43,7 +46,24 @@ is_begun live other packed = is_next (seen (head live)) (shut_head other) && (na
 abbrev pub packed_bytes : LabState → List ℕ
 packed_bytes s = blocks (packed_of the_texts s) ++ 0 ∷ []
 
--- WHAT STANDS BESIDE THE LIVE SIDE: nothing of a later epoch; or a move that was cut off, exactly where its bytes are a beginning of what a move
--- of the live side's lab writes; or else a side that has lost its header gate
-abbrev pub beside_of : List ℕ → List ℕ → List ℕ → Beside
-beside_of live other packed = if is_ahead live other then (if is_begun live other packed then Begun else Lost) else Behind
+-- a record that ends a move of an experiment
+abbrev pub is_end : Record → Bool
+is_end (Commit exp) = true
+is_end (Abort exp) = true
+is_end r = false
+
+-- behind the gate stands a beginning of what a move of the lab of these records writes
+abbrev pub IsBegunBy : List ℕ → List ℕ → List Record → Type 0
+IsBegunBy live other rs = (s : LabState) × LabOf the_texts rs s × (is_begun live other (packed_bytes s) ≡ true)
+
+-- A MOVE THAT WAS CUT OFF: of the lab of the live side's records, or of that of its first n, behind which there are only ends of moves. For the next
+-- opening settles what moves before it moves the journal, and may be cut off between both
+abbrev pub IsBegun : List ℕ → List ℕ → List Record → Type 0
+IsBegun live other rs = (n : ℕ) × (n ≤ length rs) × (list_all is_end (drop n rs) ≡ true) × IsBegunBy live other (take n rs)
+
+-- WHAT STANDS BESIDE THE LIVE SIDE, which has these records: nothing of a later epoch; a move that was cut off; or else a side that has lost its
+-- header gate
+abbrev pub IsBeside : List ℕ → List ℕ → List Record → Beside → Type 0
+IsBeside live other rs Behind = is_ahead live other ≡ false
+IsBeside live other rs Begun = (is_ahead live other ≡ true) × IsBegun live other rs
+IsBeside live other rs Lost = (is_ahead live other ≡ true) × (IsBegun live other rs → ⊥)

@@ -3,5 +3,6 @@ pub mod Seen
 pub mod Looks
 pub mod Beside
 pub mod Reports
+pub mod Records
 pub mod Told
 pub mod Shows

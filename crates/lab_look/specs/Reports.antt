@@ -1,5 +1,5 @@
 -- The sides of a journal record by record, and whether they show damage.
-use Rattle.std.specs.Prelude.{◌≡◌, ℕ, Bool, true, false, ◌&&◌, ◌||◌, not, nat_lt, List, length, Option, Some, None}
+use Rattle.std.specs.Prelude.{◌≡◌, ℕ, Bool, true, false, ◌&&◌, ◌||◌, not, nat_lt, is_some, List, length, Option, Some, None}
 use Rattle.plant.specs.Sides.{of_side}
 use Rattle.journal_rec.specs.declared.record.Found.{Found}
 use Rattle.journal_model.specs.Journals.{head, live, New}
@@ -7,6 +7,7 @@ use Rattle.records_model.specs.Labs.{LabState}
 use Rattle.journal_disk.specs.declared.heads.Head.{Head}
 use Rattle.journal_disk.specs.declared.heads.Head.TheVariants.{Blank, Headed}
 use Rattle.journal_disk.specs.Heads.{seen}
+use Rattle.lab_state.specs.Replays.{records_of}
 use Rattle.lab_sides.specs.Heads.{shut_head, is_cut}
 use Rattle.lab_sides.specs.Walks.{AreThere}
 use Rattle.lab_sides.specs.Reads.{HasFault}
@@ -16,7 +17,8 @@ use Rattle.lab_look.specs.declared.report.Standing.TheVariants as standings
 use Rattle.lab_look.specs.declared.report.Report.{Report}
 use Rattle.lab_look.specs.declared.beside.Beside.{Beside}
 use Rattle.lab_look.specs.declared.beside.Beside.TheVariants.{Lost}
-use Rattle.lab_look.specs.Beside.{beside_of, packed_bytes}
+use Rattle.lab_look.specs.declared.tables.TablesSeen.{TablesSeen}
+use Rattle.lab_look.specs.Beside.{is_next, IsBeside}
 use Rattle.lab_look.specs.Looks.{HasLab, HasWrong}
 
 abbrev pub is_headed : Head → Bool
@@ -47,7 +49,7 @@ pub record IsSideReport (bytes : List ℕ) (r : SideReport) : Type 0 where
 abbrev pub IsStanding : List ℕ → List ℕ → Standing → Type 0
 IsStanding a b standings.New = live (head a) (head b) ≡ New
 IsStanding a b (standings.On side w found beside) = (s : LabState) × HasLab a b side w s × AreThere (of_side side a b) w.gate found
-    × (beside ≡ beside_of (of_side side a b) (of_side side b a) (packed_bytes s))
+    × IsBeside (of_side side a b) (of_side side b a) (records_of w.found) beside
 IsStanding a b (standings.Bad side at before) = HasFault a b side at before
 IsStanding a b (standings.Wrong side at w) = HasWrong a b side at w
 
@@ -85,6 +87,11 @@ is_standing_damaged rows standings.New = rows
 is_standing_damaged rows (standings.On side w found beside) = has_more found || is_lost beside
 is_standing_damaged rows standing = true
 
--- BOTH SIDES SHOW DAMAGE
-abbrev pub is_damaged : Bool → Report → Bool
-is_damaged rows r = is_side_damaged r.a r.b || is_side_damaged r.b r.a || is_standing_damaged rows r.standing
+-- both sides have a header, and neither epoch is the next one of the other, as a move makes it
+abbrev pub are_apart : Head → Head → Bool
+are_apart first second = is_headed first && is_headed second && not (is_next first second || is_next second first)
+
+-- BOTH SIDES SHOW DAMAGE, or the tables have a line that is none
+abbrev pub is_damaged : TablesSeen → Report → Bool
+is_damaged tables r = is_side_damaged r.a r.b || is_side_damaged r.b r.a || are_apart r.a.head r.b.head || is_standing_damaged tables.rows r.standing
+    || is_some tables.fault

@@ -1,11 +1,9 @@
 -- The lines that a check tells of both sides.
-use Rattle.std.specs.Prelude.{◌≡◌, ℕ, Bool, ◌&&◌, nat_lt, if◌then◌else◌, List, [], ◌∷◌, ◌++◌, length, codes, decimal, flat_map, Option, Some, None}
+use Rattle.std.specs.Prelude.{◌≡◌, ℕ, Bool, ◌&&◌, nat_lt, if◌then◌else◌, List, [], ◌∷◌, ◌++◌, length, codes, decimal, Option, Some, None}
+use Rattle.lab_base.specs.Kinds.{word_of}
+use Rattle.lab_base.specs.declared.fault.TextFault.{TextFault}
 use Rattle.plant.specs.declared.step.Side.{Side}
 use Rattle.plant.specs.declared.step.Side.TheVariants.{A, B}
-use Rattle.journal_rec.specs.declared.record.Way.{Way}
-use Rattle.journal_rec.specs.declared.record.Way.TheVariants.{In, Out, Change, Change2}
-use Rattle.journal_rec.specs.declared.record.Record.{Record}
-use Rattle.journal_rec.specs.declared.record.Record.TheVariants.{Lab, Create, Delete, Begin, Commit, Abort, Create2}
 use Rattle.journal_rec.specs.declared.record.Found.{Found}
 use Rattle.journal_disk.specs.declared.heads.Head.{Head}
 use Rattle.journal_disk.specs.declared.heads.Head.TheVariants.{Blank, Foreign, Headed}
@@ -14,8 +12,11 @@ use Rattle.lab_look.specs.declared.report.SideReport.{SideReport}
 use Rattle.lab_look.specs.declared.report.Standing.{Standing}
 use Rattle.lab_look.specs.declared.report.Standing.TheVariants as standings
 use Rattle.lab_look.specs.declared.report.Report.{Report}
+use Rattle.lab_look.specs.declared.tables.TablesSeen.{TablesSeen}
 use Rattle.lab_look.specs.declared.told.Told.{Told}
-use Rattle.lab_look.specs.Reports.{is_headed, has_more, has_lost, is_damaged, IsReport}
+use Rattle.lab_look.specs.declared.told.Telling.{Telling}
+use Rattle.lab_look.specs.Records.{listed}
+use Rattle.lab_look.specs.Reports.{is_headed, has_more, has_lost, are_apart, is_damaged, IsReport}
 
 -- what stands before a number or another part of a line
 unfoldable pub stands_on : List ℕ
@@ -37,29 +38,6 @@ abbrev pub side_word : Side → List ℕ
 side_word A = codes "side A"
 side_word B = codes "side B"
 
--- a record's kind, with its experiment and the way of its move
-abbrev pub way_word : Way → List ℕ
-way_word (In map tags) = codes " in"
-way_word Out = codes " out"
-way_word (Change top map tags) = codes " change"
-way_word (Change2 top map tags) = codes " change"
-
-abbrev pub kind_words : Record → List ℕ
-kind_words (Lab ptop) = codes " lab"
-kind_words (Create exp top) = codes " create " ++ exp
-kind_words (Create2 exp top) = codes " create " ++ exp
-kind_words (Delete exp) = codes " delete " ++ exp
-kind_words (Begin exp way) = codes " begin " ++ exp ++ way_word way
-kind_words (Commit exp) = codes " commit " ++ exp
-kind_words (Abort exp) = codes " abort " ++ exp
-
--- A RECORD, with the place of its gate: `  1749 begin E in`
-abbrev pub record_line : Found → List ℕ
-record_line f = codes "  " ++ decimal f.at ++ kind_words f.entry ++ 10 ∷ []
-
-abbrev pub record_lines : List Found → List ℕ
-record_lines founds = flat_map record_line founds
-
 -- damage is told where two looks in a row found both sides the same
 abbrev pub damage : Bool → List ℕ
 damage still = if still then codes "DAMAGE: " else codes "came while it was read: "
@@ -77,36 +55,36 @@ abbrev pub side_lines : Bool → Side → SideReport → List ℕ
 side_lines still side r = side_word side ++ 32 ∷ [] ++ decimal r.bytes ++ head_words r.head ++ cut_line still side r.cut
 
 -- records behind a closed header
-abbrev pub shut_records : Bool → Side → List Found → List ℕ
-shut_records still side found =
-    if nat_lt 0 (length found) then damage still ++ side_word side ++ codes " has a closed header over these records\n" ++ record_lines found
+abbrev pub shut_records : Telling → Side → List Found → List ℕ
+shut_records how side found =
+    if nat_lt 0 (length found) then damage how.still ++ side_word side ++ codes " has a closed header over these records\n" ++ listed how.all found
     else side_word side ++ codes " has a closed header over no record\n"
 
 -- behind one that was lost, and behind one that a move left
-abbrev pub left_words : Bool → Side → Bool → List Found → List ℕ
-left_words still side lost found =
-    if lost then damage still ++ side_word side ++ codes " has lost its header gate over these records\n" ++ record_lines found
+abbrev pub left_words : Telling → Side → Bool → List Found → List ℕ
+left_words how side lost found =
+    if lost then damage how.still ++ side_word side ++ codes " has lost its header gate over these records\n" ++ listed how.all found
     else side_word side ++ codes " has a closed header, as a move of the journal leaves it\n"
 
-abbrev pub shut_words : Bool → Side → Bool → Bool → List Found → List ℕ
-shut_words still side headed lost found = if headed then left_words still side lost found else shut_records still side found
+abbrev pub shut_words : Telling → Side → Bool → Bool → List Found → List ℕ
+shut_words how side headed lost found = if headed then left_words how side lost found else shut_records how side found
 
-abbrev pub shut_lines : Bool → Side → Option (List Found) → Head → Bool → List ℕ
-shut_lines still side None other lost = []
-shut_lines still side (Some found) other lost = shut_words still side (is_headed other) lost found
+abbrev pub shut_lines : Telling → Side → Option (List Found) → Head → Bool → List ℕ
+shut_lines how side None other lost = []
+shut_lines how side (Some found) other lost = shut_words how side (is_headed other) lost found
 
 -- the whole records behind the closed gate
-unfoldable pub behind_lines : Bool → List Found → List ℕ
-behind_lines still found =
-    if has_more found then damage still ++ changed_words ++ decimal (length found) ++ 10 ∷ [] ++ record_lines found
-    else behind_words ++ decimal (length found) ++ 10 ∷ [] ++ record_lines found
+unfoldable pub behind_lines : Telling → List Found → List ℕ
+behind_lines how found =
+    if has_more found then damage how.still ++ changed_words ++ decimal (length found) ++ 10 ∷ [] ++ listed how.all found
+    else behind_words ++ decimal (length found) ++ 10 ∷ [] ++ listed how.all found
 
 abbrev pub rows_line : Bool → Bool → List ℕ
 rows_line still rows = if rows then damage still ++ codes "the tables have lines\n" else []
 
 -- the records of a side, its closed gate, and what stands behind it
-unfoldable pub stands_lines : Side → List Found → List ℕ
-stands_lines side found = stands_on ++ side_word side ++ codes ", records: " ++ decimal (length found) ++ 10 ∷ [] ++ record_lines found
+unfoldable pub stands_lines : Bool → Side → List Found → List ℕ
+stands_lines all side found = stands_on ++ side_word side ++ codes ", records: " ++ decimal (length found) ++ 10 ∷ [] ++ listed all found
 
 unfoldable pub closed_words : List ℕ
 closed_words = codes " closed gate\n"
@@ -114,28 +92,46 @@ closed_words = codes " closed gate\n"
 unfoldable pub gate_line : ℕ → List ℕ
 gate_line gate = codes "  " ++ decimal gate ++ closed_words
 
-abbrev pub on_lines : Bool → Side → Walked → List Found → List ℕ
-on_lines still side w found = stands_lines side w.found ++ gate_line w.gate ++ behind_lines still found
+abbrev pub on_lines : Telling → Side → Walked → List Found → List ℕ
+on_lines how side w found = stands_lines how.all side w.found ++ gate_line w.gate ++ behind_lines how found
 
 -- WHERE THE JOURNAL STANDS, record by record
-abbrev pub standing_lines : Bool → Bool → Standing → List ℕ
-standing_lines still rows standings.New = no_journal ++ rows_line still rows
-standing_lines still rows (standings.On side w found beside) = on_lines still side w found
-standing_lines still rows (standings.Bad side at before) = record_lines before ++ damage still ++ side_word side ++ codes " is bad at " ++ decimal at ++ 10 ∷ []
-standing_lines still rows (standings.Wrong side at w) = record_lines w.found ++ damage still ++ side_word side ++ codes " has a record that can't follow at " ++ decimal at ++ 10 ∷ []
+abbrev pub standing_lines : Telling → Bool → Standing → List ℕ
+standing_lines how rows standings.New = no_journal ++ rows_line how.still rows
+standing_lines how rows (standings.On side w found beside) = on_lines how side w found
+standing_lines how rows (standings.Bad side at before) = listed how.all before ++ damage how.still ++ side_word side ++ codes " is bad at " ++ decimal at ++ 10 ∷ []
+standing_lines how rows (standings.Wrong side at w) =
+    listed how.all w.found ++ damage how.still ++ side_word side ++ codes " has a record that can't follow at " ++ decimal at ++ 10 ∷ []
+
+unfoldable pub form_words : List ℕ
+form_words = codes " of tables has another form: "
+
+-- THE FIRST LINE OF THE TABLES THAT IS NONE, with its kind of fault: `DAMAGE: line 3 of tables has another form: fields`
+abbrev pub fault_line : Bool → Option TextFault → List ℕ
+fault_line still None = []
+fault_line still (Some fault) = damage still ++ codes "line " ++ decimal fault.line ++ form_words ++ word_of fault.kind ++ 10 ∷ []
 
 -- the last line
 abbrev pub verdict_of : Bool → Bool → List ℕ
 verdict_of still damaged = if still then (if damaged then codes "damaged\n" else codes "sound\n") else codes "a program is at work here\n"
 
--- WHAT A CHECK TELLS
-abbrev pub told_text : Bool → Bool → Report → List ℕ
-told_text still rows r = side_lines still A r.a ++ side_lines still B r.b ++ shut_lines still A r.a.shut r.b.head (has_lost r.standing)
-    ++ shut_lines still B r.b.shut r.a.head (has_lost r.standing) ++ standing_lines still rows r.standing ++ verdict_of still (is_damaged rows r)
+abbrev pub apart_line : Bool → Bool → List ℕ
+apart_line still apart = if apart then damage still ++ codes "the epochs of the sides don't follow each other\n" else []
 
--- THE CHECK of two sides: a text on what they hold, and damage where two looks in a row found both the same, and that shows damage
-pub record IsChecked (a b : List ℕ) (still rows : Bool) (t : Told) : Type 0 where
+-- the lines of both sides
+abbrev pub sides_lines : Telling → Report → List ℕ
+sides_lines how r = side_lines how.still A r.a ++ side_lines how.still B r.b ++ apart_line how.still (are_apart r.a.head r.b.head) ++ shut_lines how A r.a.shut r.b.head (has_lost r.standing)
+    ++ shut_lines how B r.b.shut r.a.head (has_lost r.standing)
+
+-- WHAT A CHECK TELLS
+abbrev pub told_text : Telling → TablesSeen → Report → List ℕ
+told_text how tables r = sides_lines how r ++ standing_lines how tables.rows r.standing ++ fault_line how.still tables.fault
+    ++ verdict_of how.still (is_damaged tables r)
+
+-- THE CHECK of two sides and the tables: a text on what they hold, and damage where two looks in a row found both sides the same, and that shows
+-- damage
+pub record IsChecked (a b : List ℕ) (how : Telling) (tables : TablesSeen) (t : Told) : Type 0 where
   pub report : Report
   pub is_report : IsReport a b report
-  pub text_is : t.text ≡ told_text still rows report
-  pub damaged_is : t.damaged ≡ still && is_damaged rows report
+  pub text_is : t.text ≡ told_text how tables report
+  pub damaged_is : t.damaged ≡ how.still && is_damaged tables report

@@ -1,18 +1,25 @@
 // The side beside the live one.
-ghost use Rattle.std.specs.Prelude.{◌≡◌, IfOk};
-ghost use Rattle.lab_look.specs.Beside.{is_later, is_next, is_ahead, is_beginning, is_begun, beside_of, packed_bytes};
+ghost use Rattle.std.specs.Prelude.{◌≡◌, ◌↔◌, true, IfOk};
+ghost use Rattle.lab_base.specs.Lists.{Has};
+ghost use Rattle.journal_rec.specs.declared.record.Found.{Found as AnyFound};
+ghost use Rattle.journal_rec.specs.Payloads.{IsRecord};
+ghost use Rattle.lab_state.specs.Replays.{records_of};
+ghost use Rattle.lab_look.specs.Beside.{is_later, is_next, is_ahead, is_beginning, is_begun, is_end, IsBegunBy, IsBeside};
 
 use journal_disk::{FIRST, Head, head_of};
+use journal_rec::{Found, Record};
 use lab_base::Memory;
 use lab_sides::shut_head;
-use lab_state::LabState;
+use lab_state::{LabState, ReplayFault};
+use std::alloc::Global;
 
-/// What stands on the side beside the live one.
+/// The side beside the live one.
 #[derive(Clone, Copy)]
 pub enum Beside {
     /// No header of a later epoch behind a closed gate.
     Behind,
-    /// A move that was cut off: behind the closed gate stands a beginning of what a move of the live side's lab writes.
+    /// A move that was cut off: behind the closed gate stands a beginning of what a move of the live side's lab writes, as that lab is,
+    /// or as it was before its last records, where these only end moves of experiments.
     Begun,
     /// Something else stands there: the side was the live one, and its header gate was lost.
     Lost,
@@ -30,7 +37,8 @@ fn is_later(live: Head, other: Head) -> bool
     }
 }
 
-fn is_next(live: Head, other: Head) -> bool
+/// Whether the other one's epoch is the next one.
+pub(crate) fn is_next(live: Head, other: Head) -> bool
     ensures { result ≡ is_next live other }
 {
     match live {
@@ -76,17 +84,66 @@ fn is_begun(live: &[u8], other: &[u8], packed: &[u8]) -> bool
         && is_beginning(&other[FIRST..], packed)
 }
 
-/// What stands beside a live side whose journal stands for that lab.
-pub(crate) fn stands_beside(live: &[u8], other: &[u8], state: &LabState) -> Result<Beside, Memory>
-    ensures { IfOk result (λ beside. beside ≡ beside_of live.now other.now (packed_bytes state.now.state)) }
+fn is_end(entry: &Record) -> bool
+    ensures { result ≡ is_end entry.now }
 {
-    if !is_ahead(live, other) {
-        return Ok(Beside::Behind);
+    match entry {
+        Record::Commit { .. } | Record::Abort { .. } => true,
+        _ => false,
     }
-    let packed = state.pack()?;
-    if is_begun(live, other, packed.bytes()) {
-        Ok(Beside::Begun)
+}
+
+/// Whether a beginning of what a move of the lab of these records writes stands behind the gate.
+fn is_begun_by(alloc: Global, live: &[u8], other: &[u8], found: &[Found]) -> Result<bool, Memory>
+    requires { (f : AnyFound) → Has found.now f → IsRecord f.entry }
+    ensures { IfOk result (λ yes. (yes ≡ true) ↔ IsBegunBy live.now other.now (records_of found.now)) }
+{
+    match LabState::replay(alloc, found) {
+        Ok(state) => {
+            let packed = state.pack()?;
+            Ok(is_begun(live, other, packed.bytes()))
+        }
+        Err(ReplayFault::Bad { .. }) => Ok(false),
+        Err(ReplayFault::Memory) => Err(Memory),
+    }
+}
+
+/// A move that was cut off, or a lost gate. The lab of all records is tried, and then without the last one, while that ends a move.
+fn begun_or_lost(
+    alloc: Global,
+    live: &[u8],
+    other: &[u8],
+    found: &[Found],
+) -> Result<Beside, Memory>
+    requires ahead { is_ahead live.now other.now ≡ true }
+    requires records { (f : AnyFound) → Has found.now f → IsRecord f.entry }
+    ensures { IfOk result (IsBeside live.now other.now (records_of found.now)) }
+{
+    let mut count = found.len();
+    'fronts: loop {
+        if is_begun_by(alloc, live, other, &found[..count])? {
+            return Ok(Beside::Begun);
+        }
+        if count == 0 || !is_end(&found[count - 1].entry) {
+            return Ok(Beside::Lost);
+        }
+        count -= 1;
+    }
+}
+
+/// The side beside a live one with these records.
+pub(crate) fn stands_beside(
+    alloc: Global,
+    live: &[u8],
+    other: &[u8],
+    found: &[Found],
+) -> Result<Beside, Memory>
+    requires { (f : AnyFound) → Has found.now f → IsRecord f.entry }
+    ensures { IfOk result (IsBeside live.now other.now (records_of found.now)) }
+{
+    if is_ahead(live, other) {
+        begun_or_lost(alloc, live, other, found)
     } else {
-        Ok(Beside::Lost)
+        Ok(Beside::Behind)
     }
 }

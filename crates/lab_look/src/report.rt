@@ -1,5 +1,7 @@
 // The sides of a journal, record by record.
 ghost use Rattle.std.specs.Prelude.{◌≡◌, IfOk};
+ghost use Rattle.records_model.specs.Labs.{LabState as AnyState};
+ghost use Rattle.lab_look.specs.Looks.{HasLab};
 ghost use Rattle.lab_look.specs.Reports.{is_shut, IsShut, IsSideReport, IsStanding, IsReport};
 
 use crate::beside::{Beside, stands_beside};
@@ -80,6 +82,24 @@ fn side_report(alloc: Global, bytes: &[u8]) -> Result<SideReport, Memory>
     })
 }
 
+/// A journal on that side, with what stands behind its closed gate and beside it.
+fn standing_on(
+    alloc: Global,
+    a: &[u8],
+    b: &[u8],
+    side: Side,
+    walked: Walked,
+) -> Result<Standing, Memory>
+    requires { (s : AnyState) × HasLab a.now b.now side walked s }
+    ensures { IfOk result (IsStanding a.now b.now) }
+{
+    let bytes = bytes_of(side, a, b);
+    let other = bytes_of(side, b, a);
+    let beside = stands_beside(alloc, bytes, other, walked.found.as_slice())?;
+    let later = behind(alloc, bytes, walked.gate as usize)?;
+    Ok(Standing::On(side, walked, later, beside))
+}
+
 fn standing_of(alloc: Global, a: &[u8], b: &[u8]) -> Result<Standing, Memory>
     ensures { IfOk result (IsStanding a.now b.now) }
 {
@@ -88,11 +108,8 @@ fn standing_of(alloc: Global, a: &[u8], b: &[u8]) -> Result<Standing, Memory>
         Ok(Looked::Bad(side, at, before)) => Ok(Standing::Bad(side, at, before)),
         Ok(Looked::Wrong(side, at, walked)) => Ok(Standing::Wrong(side, at, walked)),
         Ok(Looked::Found(side, walked, state)) => {
-            let bytes = bytes_of(side, a, b);
-            let other = stands_beside(bytes, bytes_of(side, b, a), &state)?;
             drop(state);
-            let later = behind(alloc, bytes, walked.gate as usize)?;
-            Ok(Standing::On(side, walked, later, other))
+            standing_on(alloc, a, b, side, walked)
         }
         Err(Memory) => Err(Memory),
     }

@@ -1,89 +1,34 @@
 // The lines that a check tells of both sides.
-ghost use Rattle.std.specs.Prelude.{◌≡◌, ◌++◌, ◌∷◌, [], nat_lt, length, codes, decimal, IfOk, OnOk};
-ghost use Rattle.lab_look.specs.Reports.{is_headed, has_some, has_more, is_lost, has_lost, is_side_damaged, is_standing_damaged, is_damaged};
-ghost use Rattle.lab_look.specs.Told.{stands_on, no_journal, epoch_words, changed_words, behind_words, side_word, way_word, kind_words, record_line, record_lines, damage, head_words, cut_line, side_lines, shut_records, left_words, shut_words, shut_lines, behind_lines, rows_line, stands_lines, closed_words, gate_line, on_lines, standing_lines, verdict_of, told_text, IsChecked};
+ghost use Rattle.std.specs.Prelude.{◌≡◌, ◌++◌, ◌∷◌, [], nat_lt, length, decimal, IfOk, OnOk};
+ghost use Rattle.lab_look.specs.Records.{listed};
+ghost use Rattle.lab_look.specs.Reports.{is_headed, has_more, has_lost, are_apart, is_damaged};
+ghost use Rattle.lab_look.specs.Told.{stands_on, no_journal, epoch_words, changed_words, behind_words, side_word, damage, head_words, cut_line, side_lines, apart_line, shut_records, left_words, shut_words, shut_lines, behind_lines, rows_line, stands_lines, closed_words, gate_line, on_lines, standing_lines, form_words, fault_line, verdict_of, sides_lines, told_text, IsChecked};
 
-use crate::beside::Beside;
+use crate::damage::{are_apart, has_lost, has_more, is_damaged, is_headed};
+use crate::records::push_listed;
 use crate::report::{Report, SideReport, Standing, report_of};
+use crate::tables::TablesSeen;
 use journal_disk::Head;
-use journal_rec::{Found, Record, Way};
-use lab_base::{Items, Memory, Name, Text};
+use journal_rec::Found;
+use lab_base::{Items, Memory, Text, TextFault};
 use lab_sides::Walked;
 use plant::Side;
 use std::alloc::Global;
+
+/// How a check tells.
+#[derive(Clone, Copy)]
+pub struct Telling {
+    /// Two looks in a row found both sides the same: only then is something told as damage.
+    pub still: bool,
+    /// All records are listed, and not the last ones alone.
+    pub all: bool,
+}
 
 /// The lines of a check, and whether they tell damage.
 #[derive(Drop)]
 pub struct Told {
     pub text: Text,
     pub damaged: bool,
-}
-
-fn is_headed(head: Head) -> bool
-    ensures { result ≡ is_headed head }
-{
-    match head {
-        Head::Headed(_) => true,
-        _ => false,
-    }
-}
-
-fn has_some(found: &Option<Items<Found>>) -> bool
-    ensures { result ≡ has_some found.now }
-{
-    match found {
-        Some(found) => found.len() > 0,
-        None => false,
-    }
-}
-
-fn has_more(found: &Items<Found>) -> bool
-    ensures { result ≡ has_more found.now }
-{
-    found.len() > 1
-}
-
-fn is_lost(beside: Beside) -> bool
-    ensures { result ≡ is_lost beside }
-{
-    match beside {
-        Beside::Lost => true,
-        _ => false,
-    }
-}
-
-fn has_lost(standing: &Standing) -> bool
-    ensures { result ≡ has_lost standing.now }
-{
-    match standing {
-        Standing::On(_, _, _, beside) => is_lost(*beside),
-        _ => false,
-    }
-}
-
-fn is_side_damaged(own: &SideReport, other: &SideReport) -> bool
-    ensures { result ≡ is_side_damaged own.now other.now }
-{
-    own.cut || (has_some(&own.shut) && !is_headed(other.head))
-}
-
-fn is_standing_damaged(standing: &Standing, rows: bool) -> bool
-    ensures { result ≡ is_standing_damaged rows standing.now }
-{
-    match standing {
-        Standing::New => rows,
-        Standing::On(_, _, found, beside) => has_more(found) || is_lost(*beside),
-        Standing::Bad(_, _, _) | Standing::Wrong(_, _, _) => true,
-    }
-}
-
-/// Whether what both sides hold shows damage; `rows` where the tables have lines.
-pub fn is_damaged(report: &Report, rows: bool) -> bool
-    ensures { result ≡ is_damaged rows report.now }
-{
-    is_side_damaged(&report.a, &report.b)
-        || is_side_damaged(&report.b, &report.a)
-        || is_standing_damaged(&report.standing, rows)
 }
 
 #[tactic(auto, unfolding(crate::specs::Told::stands_on))]
@@ -128,64 +73,6 @@ fn side_word(side: Side) -> &'static [u8]
         Side::A => b"side A",
         Side::B => b"side B",
     }
-}
-
-fn way_word(way: &Way) -> &'static [u8]
-    ensures { result.now ≡ way_word way.now }
-{
-    match way {
-        Way::In { .. } => b" in",
-        Way::Out => b" out",
-        Way::Change { .. } | Way::Change2 { .. } => b" change",
-    }
-}
-
-fn push_named(text: &mut Text, words: &[u8], name: &Name) -> Result<(), Memory>
-    ensures { OnOk result (text.new ≡ text.old ++ words.now ++ name.now) }
-{
-    text.push_bytes(words)?;
-    text.push_bytes(name.bytes())
-}
-
-fn push_begin(text: &mut Text, exp: &Name, way: &Way) -> Result<(), Memory>
-    ensures { OnOk result (text.new ≡ text.old ++ codes " begin " ++ exp.now ++ way_word way.now) }
-{
-    push_named(text, b" begin ", exp)?;
-    text.push_bytes(way_word(way))
-}
-
-fn push_kind(text: &mut Text, entry: &Record) -> Result<(), Memory>
-    ensures { OnOk result (text.new ≡ text.old ++ kind_words entry.now) }
-{
-    match entry {
-        Record::Lab { .. } => text.push_bytes(b" lab"),
-        Record::Create { exp, .. } | Record::Create2 { exp, .. } => {
-            push_named(text, b" create ", exp)
-        }
-        Record::Delete { exp } => push_named(text, b" delete ", exp),
-        Record::Begin { exp, way } => push_begin(text, exp, way),
-        Record::Commit { exp } => push_named(text, b" commit ", exp),
-        Record::Abort { exp } => push_named(text, b" abort ", exp),
-    }
-}
-
-/// `  1749 begin E in`.
-fn push_record(text: &mut Text, found: &Found) -> Result<(), Memory>
-    ensures { OnOk result (text.new ≡ text.old ++ record_line found.now) }
-{
-    text.push_bytes(b"  ")?;
-    text.push_number(found.at)?;
-    push_kind(text, &found.entry)?;
-    text.push(b'\n')
-}
-
-fn push_records(text: &mut Text, found: &Items<Found>) -> Result<(), Memory>
-    ensures { OnOk result (text.new ≡ text.old ++ record_lines found.now) }
-{
-    for own in found.as_slice() {
-        push_record(text, own)?;
-    }
-    Ok(())
 }
 
 fn damage(still: bool) -> &'static [u8]
@@ -248,6 +135,17 @@ fn push_side_lines(text: &mut Text, still: bool, side: Side, own: &SideReport) -
     push_cut(text, still, side, own.cut)
 }
 
+fn push_apart(text: &mut Text, still: bool, apart: bool) -> Result<(), Memory>
+    ensures { OnOk result (text.new ≡ text.old ++ apart_line still apart) }
+{
+    if apart {
+        text.push_bytes(damage(still))?;
+        text.push_bytes(b"the epochs of the sides don't follow each other\n")
+    } else {
+        Ok(())
+    }
+}
+
 fn is_some(found: &Items<Found>) -> bool
     ensures { result ≡ nat_lt 0 (length found.now) }
 {
@@ -256,20 +154,20 @@ fn is_some(found: &Items<Found>) -> bool
 
 fn push_shut_records(
     text: &mut Text,
-    still: bool,
+    how: Telling,
     side: Side,
     found: &Items<Found>,
 ) -> Result<(), Memory>
-    ensures { OnOk result (text.new ≡ text.old ++ shut_records still side found.now) }
+    ensures { OnOk result (text.new ≡ text.old ++ shut_records how side found.now) }
 {
     if is_some(found) {
         push_damage(
             text,
-            still,
+            how.still,
             side,
             b" has a closed header over these records\n",
         )?;
-        push_records(text, found)
+        push_listed(text, how.all, found.as_slice())
     } else {
         push_side(text, side, b" has a closed header over no record\n")
     }
@@ -277,21 +175,21 @@ fn push_shut_records(
 
 fn push_left(
     text: &mut Text,
-    still: bool,
+    how: Telling,
     side: Side,
     lost: bool,
     found: &Items<Found>,
 ) -> Result<(), Memory>
-    ensures { OnOk result (text.new ≡ text.old ++ left_words still side lost found.now) }
+    ensures { OnOk result (text.new ≡ text.old ++ left_words how side lost found.now) }
 {
     if lost {
         push_damage(
             text,
-            still,
+            how.still,
             side,
             b" has lost its header gate over these records\n",
         )?;
-        push_records(text, found)
+        push_listed(text, how.all, found.as_slice())
     } else {
         push_side(
             text,
@@ -303,33 +201,33 @@ fn push_left(
 
 fn push_shut_words(
     text: &mut Text,
-    still: bool,
+    how: Telling,
     side: Side,
     headed: bool,
     lost: bool,
     found: &Items<Found>,
 ) -> Result<(), Memory>
-    ensures { OnOk result (text.new ≡ text.old ++ shut_words still side headed lost found.now) }
+    ensures { OnOk result (text.new ≡ text.old ++ shut_words how side headed lost found.now) }
 {
     if headed {
-        push_left(text, still, side, lost, found)
+        push_left(text, how, side, lost, found)
     } else {
-        push_shut_records(text, still, side, found)
+        push_shut_records(text, how, side, found)
     }
 }
 
 fn push_shut(
     text: &mut Text,
-    still: bool,
+    how: Telling,
     side: Side,
     shut: &Option<Items<Found>>,
     other: Head,
     lost: bool,
 ) -> Result<(), Memory>
-    ensures { OnOk result (text.new ≡ text.old ++ shut_lines still side shut.now other lost) }
+    ensures { OnOk result (text.new ≡ text.old ++ shut_lines how side shut.now other lost) }
 {
     match shut {
-        Some(found) => push_shut_words(text, still, side, is_headed(other), lost, found),
+        Some(found) => push_shut_words(text, how, side, is_headed(other), lost, found),
         None => Ok(()),
     }
 }
@@ -343,18 +241,18 @@ fn push_count(text: &mut Text, count: u64) -> Result<(), Memory>
 }
 
 #[tactic(auto, unfolding(crate::specs::Told::behind_lines))]
-fn push_behind(text: &mut Text, still: bool, found: &Items<Found>) -> Result<(), Memory>
-    ensures { OnOk result (text.new ≡ text.old ++ behind_lines still found.now) }
+fn push_behind(text: &mut Text, how: Telling, found: &Items<Found>) -> Result<(), Memory>
+    ensures { OnOk result (text.new ≡ text.old ++ behind_lines how found.now) }
 {
     if has_more(found) {
-        text.push_bytes(damage(still))?;
+        text.push_bytes(damage(how.still))?;
         text.push_bytes(changed_words())?;
         push_count(text, found.len() as u64)?;
-        push_records(text, found)
+        push_listed(text, how.all, found.as_slice())
     } else {
         text.push_bytes(behind_words())?;
         push_count(text, found.len() as u64)?;
-        push_records(text, found)
+        push_listed(text, how.all, found.as_slice())
     }
 }
 
@@ -371,13 +269,13 @@ fn push_rows(text: &mut Text, still: bool, rows: bool) -> Result<(), Memory>
 
 /// `stands on side A, records: 8`, and the records.
 #[tactic(auto, unfolding(crate::specs::Told::stands_lines))]
-fn push_stands(text: &mut Text, side: Side, found: &Items<Found>) -> Result<(), Memory>
-    ensures { OnOk result (text.new ≡ text.old ++ stands_lines side found.now) }
+fn push_stands(text: &mut Text, all: bool, side: Side, found: &Items<Found>) -> Result<(), Memory>
+    ensures { OnOk result (text.new ≡ text.old ++ stands_lines all side found.now) }
 {
     text.push_bytes(stands_on())?;
     push_side(text, side, b", records: ")?;
     push_count(text, found.len() as u64)?;
-    push_records(text, found)
+    push_listed(text, all, found.as_slice())
 }
 
 #[tactic(auto, unfolding(crate::specs::Told::closed_words))]
@@ -399,59 +297,83 @@ fn push_gate(text: &mut Text, gate: u64) -> Result<(), Memory>
 
 fn push_on(
     text: &mut Text,
-    still: bool,
+    how: Telling,
     side: Side,
     walked: &Walked,
     found: &Items<Found>,
 ) -> Result<(), Memory>
-    ensures { OnOk result (text.new ≡ text.old ++ on_lines still side walked.now found.now) }
+    ensures { OnOk result (text.new ≡ text.old ++ on_lines how side walked.now found.now) }
 {
-    push_stands(text, side, &walked.found)?;
+    push_stands(text, how.all, side, &walked.found)?;
     push_gate(text, walked.gate)?;
-    push_behind(text, still, found)
+    push_behind(text, how, found)
 }
 
 /// Records, and the side that shows damage, with the place of it.
 fn push_wrong(
     text: &mut Text,
-    still: bool,
+    how: Telling,
     found: &Items<Found>,
     side: Side,
     words: &[u8],
     at: u64,
 ) -> Result<(), Memory>
-    ensures { OnOk result (text.new ≡ text.old ++ record_lines found.now ++ damage still ++ side_word side ++ words.now ++ decimal at ++ 10 ∷ []) }
+    ensures { OnOk result (text.new ≡ text.old ++ listed how.all found.now ++ damage how.still ++ side_word side ++ words.now ++ decimal at ++ 10 ∷ []) }
 {
-    push_records(text, found)?;
-    push_damage(text, still, side, words)?;
+    push_listed(text, how.all, found.as_slice())?;
+    push_damage(text, how.still, side, words)?;
     push_count(text, at)
 }
 
 fn push_standing(
     text: &mut Text,
-    still: bool,
+    how: Telling,
     rows: bool,
     standing: &Standing,
 ) -> Result<(), Memory>
-    ensures { OnOk result (text.new ≡ text.old ++ standing_lines still rows standing.now) }
+    ensures { OnOk result (text.new ≡ text.old ++ standing_lines how rows standing.now) }
 {
     match standing {
         Standing::New => {
             text.push_bytes(no_journal())?;
-            push_rows(text, still, rows)
+            push_rows(text, how.still, rows)
         }
-        Standing::On(side, walked, found, _) => push_on(text, still, *side, walked, found),
+        Standing::On(side, walked, found, _) => push_on(text, how, *side, walked, found),
         Standing::Bad(side, at, before) => {
-            push_wrong(text, still, before, *side, b" is bad at ", *at)
+            push_wrong(text, how, before, *side, b" is bad at ", *at)
         }
         Standing::Wrong(side, at, walked) => push_wrong(
             text,
-            still,
+            how,
             &walked.found,
             *side,
             b" has a record that can't follow at ",
             *at,
         ),
+    }
+}
+
+#[tactic(auto, unfolding(crate::specs::Told::form_words))]
+fn form_words() -> &'static [u8]
+    ensures { result.now ≡ form_words }
+{
+    b" of tables has another form: "
+}
+
+/// `DAMAGE: line 3 of tables has another form: fields`, where there is such a line.
+fn push_fault(text: &mut Text, still: bool, fault: Option<TextFault>) -> Result<(), Memory>
+    ensures { OnOk result (text.new ≡ text.old ++ fault_line still fault) }
+{
+    match fault {
+        Some(fault) => {
+            text.push_bytes(damage(still))?;
+            text.push_bytes(b"line ")?;
+            text.push_number(fault.line as u64)?;
+            text.push_bytes(form_words())?;
+            text.push_bytes(fault.kind.word().as_bytes())?;
+            text.push(b'\n')
+        }
+        None => Ok(()),
     }
 }
 
@@ -465,42 +387,48 @@ fn verdict_of(still: bool, damaged: bool) -> &'static [u8]
     }
 }
 
-/// The text of a check. `still` where two looks in a row found both sides the same, and `rows` where the tables have lines.
-fn told_text(alloc: Global, report: &Report, still: bool, rows: bool) -> Result<Text, Memory>
-    ensures { IfOk result (λ text. text ≡ told_text still rows report.now) }
+/// The lines of both sides.
+fn push_sides(text: &mut Text, how: Telling, report: &Report) -> Result<(), Memory>
+    ensures { OnOk result (text.new ≡ text.old ++ sides_lines how report.now) }
+{
+    let Report { a, b, standing } = report;
+    push_side_lines(text, how.still, Side::A, a)?;
+    push_side_lines(text, how.still, Side::B, b)?;
+    push_apart(text, how.still, are_apart(a.head, b.head))?;
+    let lost = has_lost(standing);
+    push_shut(text, how, Side::A, &a.shut, b.head, lost)?;
+    push_shut(text, how, Side::B, &b.shut, a.head, lost)
+}
+
+/// The text of a check.
+fn told_text(
+    alloc: Global,
+    report: &Report,
+    how: Telling,
+    tables: TablesSeen,
+) -> Result<Text, Memory>
+    ensures { IfOk result (λ text. text ≡ told_text how tables report.now) }
 {
     let mut text = Text::new(alloc);
-    push_side_lines(&mut text, still, Side::A, &report.a)?;
-    push_side_lines(&mut text, still, Side::B, &report.b)?;
-    let lost = has_lost(&report.standing);
-    push_shut(
-        &mut text,
-        still,
-        Side::A,
-        &report.a.shut,
-        report.b.head,
-        lost,
-    )?;
-    push_shut(
-        &mut text,
-        still,
-        Side::B,
-        &report.b.shut,
-        report.a.head,
-        lost,
-    )?;
-    push_standing(&mut text, still, rows, &report.standing)?;
-    text.push_bytes(verdict_of(still, is_damaged(report, rows)))?;
+    push_sides(&mut text, how, report)?;
+    push_standing(&mut text, how, tables.rows, &report.standing)?;
+    push_fault(&mut text, how.still, tables.fault)?;
+    text.push_bytes(verdict_of(how.still, is_damaged(report, tables)))?;
     Ok(text)
 }
 
-/// The check of two sides. `still` where two looks in a row found both the same: only then is something told as damage. `rows` where the
-/// tables have lines.
-pub fn check(alloc: Global, a: &[u8], b: &[u8], still: bool, rows: bool) -> Result<Told, Memory>
-    ensures { IfOk result (IsChecked a.now b.now still rows) }
+/// The check of two sides and the tables. Something is told as damage only where two looks in a row found both sides the same.
+pub fn check(
+    alloc: Global,
+    a: &[u8],
+    b: &[u8],
+    how: Telling,
+    tables: TablesSeen,
+) -> Result<Told, Memory>
+    ensures { IfOk result (IsChecked a.now b.now how tables) }
 {
     let report = report_of(alloc, a, b)?;
-    let text = told_text(alloc, &report, still, rows)?;
-    let damaged = still && is_damaged(&report, rows);
+    let text = told_text(alloc, &report, how, tables)?;
+    let damaged = how.still && is_damaged(&report, tables);
     Ok(Told { text, damaged })
 }

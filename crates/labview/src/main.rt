@@ -1,16 +1,20 @@
 //! Looks at the folder of a lab, and changes nothing in it: its text, with `--svg` its picture, with `--check` what its journal holds.
 #![tactic(auto)]
 
+mod tables;
 mod words;
 
+use crate::tables::{MAX_TABLES, tables_seen};
 use crate::words::{Asked, WordsFault, read_words};
 use lab_base::{Memory, Text};
 use lab_drawn::picture_in;
+use lab_files::{file, tables_in};
 use lab_io::{StdSink, write_all};
-use lab_look::{Shown, Told, check, text_in};
+use lab_look::{Shown, Telling, Told, check, text_in};
 use plant::Side;
+use std::alloc::Global;
 use std::process::ExitCode;
-use std::{env, fs, io};
+use std::{env, io};
 
 /// How often both sides are read, at most, until two looks find the same bytes.
 const LOOKS: usize = 64;
@@ -40,35 +44,33 @@ impl End {
     }
 }
 
-/// Both sides, whether the tables have lines, and whether two looks in a row found the sides equal.
+/// Both sides, the tables, and whether two looks in a row found the sides equal.
 #[derive(Drop)]
 struct Seen {
     a: Vec<u8>,
     b: Vec<u8>,
-    rows: bool,
+    tables: Vec<u8>,
     still: bool,
 }
 
-/// The bytes of a file of the folder; none where it is missing. The file is opened to be read alone.
-fn file(rt: &HostRuntime, dir: &str, name: &str) -> io::Result<Vec<u8>> {
-    let mut path = String::from_str(rt.alloc(), dir)?;
-    path.push_str(name)?;
-    match fs::read(rt, path.as_str()) {
-        Err(error) if error.kind() == io::ErrorKind::NotFound => Ok(Vec::new(rt.alloc())),
-        read => read,
-    }
+/// The bytes of a side; none where its file is missing.
+fn side(rt: &HostRuntime, dir: &str, name: &str) -> io::Result<Vec<u8>> {
+    Ok(file(rt, dir, name)?.unwrap_or(Vec::new(rt.alloc())))
 }
 
 /// Reads both sides, again and again until two looks in a row find them equal, which then stood so at one moment between both. The
 /// tables are read before: a program at work writes a journal first, and then rows.
 fn sides(rt: &HostRuntime, dir: &str) -> io::Result<Seen> {
-    let rows = !file(rt, dir, "/tables")?.is_empty();
-    let mut a = file(rt, dir, "/journal.a")?;
-    let mut b = file(rt, dir, "/journal.b")?;
+    let tables = tables_in(rt, dir)?;
+    if tables.len() > MAX_TABLES {
+        return Err(io::Error::from(io::ErrorKind::InvalidData));
+    }
+    let mut a = side(rt, dir, "journal.a")?;
+    let mut b = side(rt, dir, "journal.b")?;
     let mut still = false;
     for _ in 0..LOOKS {
-        let next_a = file(rt, dir, "/journal.a")?;
-        let next_b = file(rt, dir, "/journal.b")?;
+        let next_a = side(rt, dir, "journal.a")?;
+        let next_b = side(rt, dir, "journal.b")?;
         still = next_a == a && next_b == b;
         a = next_a;
         b = next_b;
@@ -76,7 +78,12 @@ fn sides(rt: &HostRuntime, dir: &str) -> io::Result<Seen> {
             break;
         }
     }
-    Ok(Seen { a, b, rows, still })
+    Ok(Seen {
+        a,
+        b,
+        tables,
+        still,
+    })
 }
 
 fn write(rt: &HostRuntime, text: &Text, end: End) -> End {
@@ -102,9 +109,18 @@ fn show(rt: &HostRuntime, seen: &Seen, svg: bool) -> End {
     }
 }
 
+/// A check of what was seen.
+fn checked(alloc: Global, seen: &Seen, all: bool) -> Result<Told, Memory> {
+    // for the prover: no longer text is read
+    let count = seen.tables.len().min(MAX_TABLES);
+    let tables = tables_seen(alloc, &seen.tables[..count])?;
+    let still = seen.still;
+    check(alloc, &seen.a, &seen.b, Telling { still, all }, tables)
+}
+
 /// Writes what a check tells of what was seen.
-fn tell_check(rt: &HostRuntime, seen: &Seen) -> End {
-    match check(rt.alloc(), &seen.a, &seen.b, seen.still, seen.rows) {
+fn tell_check(rt: &HostRuntime, seen: &Seen, all: bool) -> End {
+    match checked(rt.alloc(), seen, all) {
         Ok(Told { text, damaged }) => {
             let end = if damaged { End::Damaged } else { End::Done };
             write(rt, &text, end)
@@ -118,7 +134,7 @@ fn run_on(rt: &HostRuntime, asked: Asked<'_>) -> End {
         return End::Unread;
     };
     if asked.check {
-        tell_check(rt, &seen)
+        tell_check(rt, &seen, asked.records)
     } else {
         show(rt, &seen, asked.svg)
     }
@@ -147,7 +163,7 @@ fn run(rt: &HostRuntime) -> End {
 fn tell(rt: &HostRuntime, end: End) -> io::Result<()> {
     match end {
         End::Done | End::Damaged => Ok(()),
-        End::Usage => eprintln!(rt; "labview [--check] [--svg] DIR"),
+        End::Usage => eprintln!(rt; "labview [--check [--records]] [--svg] DIR"),
         End::Unread => eprintln!(rt; "labview: a file can't be read, or the text not be written"),
         End::Busy => eprintln!(rt; "labview: a program is at work here"),
         End::Memory => eprintln!(rt; "labview: out of memory"),

@@ -8,6 +8,8 @@ use std::alloc::Global;
 pub struct Asked<'a> {
     pub dir: &'a str,
     pub check: bool,
+    /// A check is to list all records.
+    pub records: bool,
     pub svg: bool,
 }
 
@@ -19,10 +21,13 @@ pub enum WordsFault {
     Memory,
 }
 
-/// The command `labview [--check] [--svg] DIR` on the words.
+/// The command `labview [--check [--records]] [--svg] DIR` on the words.
 fn matches<'a>(alloc: Global, words: &'a [String]) -> Result<ArgMatches<'a>, Error> {
     let check = Arg::new(alloc, "check")
         .long("check")
+        .action(ArgAction::SetTrue);
+    let records = Arg::new(alloc, "records")
+        .long("records")
         .action(ArgAction::SetTrue);
     let svg = Arg::new(alloc, "svg")
         .long("svg")
@@ -32,6 +37,7 @@ fn matches<'a>(alloc: Global, words: &'a [String]) -> Result<ArgMatches<'a>, Err
         .no_binary_name(true)
         .disable_help_flag(true)
         .arg(check)?
+        .arg(records)?
         .arg(svg)?
         .arg(dir)?;
     command.try_get_matches_from(words)
@@ -48,12 +54,15 @@ pub fn read_words<'a>(alloc: Global, words: &'a [String]) -> Result<Asked<'a>, W
             });
         }
     };
+    let check = matches.get_flag("check");
+    let records = matches.get_flag("records");
     match matches.get_str("dir") {
-        Some(dir) => Ok(Asked {
+        Some(dir) if check || !records => Ok(Asked {
             dir,
-            check: matches.get_flag("check"),
+            check,
+            records,
             svg: matches.get_flag("svg"),
         }),
-        None => Err(WordsFault::Usage),
+        _ => Err(WordsFault::Usage),
     }
 }
