@@ -1,0 +1,11 @@
+mod Carrying
+mod Naming
+mod Cabling
+mod Staying
+mod Looking
+mod Over
+mod Among
+mod Walking
+mod Suiting
+mod Coming
+mod Sticking
