@@ -26,7 +26,8 @@ _lab() {
         set) options='-d -n -w --json' kinds=("file") ;;
         status) options='-d -n -w --json' kinds=() ;;
         map) options='-d -w --json' kinds=() ;;
-        view) options='-d --check --svg' kinds=() ;;
+        view) options='-d --check --records --svg' kinds=() ;;
+        grow) options='-d -w' kinds=("file" "dir") ;;
         audit) options='-d -n -w --json' kinds=() ;;
         recover) options='-d -n -w --json' kinds=() ;;
         off) options='-d -w --json' kinds=("machine" "none+") ;;
@@ -61,7 +62,7 @@ _lab() {
     esac
     case ${kind%+} in
         options) mapfile -t COMPREPLY < <(compgen -W "$options" -- "$word") ;;
-        word) mapfile -t COMPREPLY < <(compgen -W 'set status map view audit recover off on log serve net dump check flat create solve in modify play out delete show hosts graph run batch help' -- "$word") ;;
+        word) mapfile -t COMPREPLY < <(compgen -W 'set status map view grow audit recover off on log serve net dump check flat create solve in modify play out delete show hosts graph run batch help' -- "$word") ;;
         exp) mapfile -t COMPREPLY < <(compgen -W "$(_lab_view "$dir" | sed -n 's/^exp \([^ ]*\) .*/\1/p')" -- "$word") ;;
         machine) mapfile -t COMPREPLY < <(compgen -W "$(_lab_view "$dir" | sed -n 's/^machine \([^ ]*\) .*/\1/p')" -- "$word") ;;
         off) mapfile -t COMPREPLY < <(compgen -W "$(cut -f 2 -- "$dir/off" 2> /dev/null | sort -u)" -- "$word") ;;

@@ -14,6 +14,7 @@ def add(words):
     words.add("map", takes="w", json=True, example="machine pc1 in ring node-0: ring claims pc1, and node-0 of it is there")
     parser = words.add("view", takes="", example="lab view --svg > lab.svg; lab view --check ends with sound, or tells the damage")
     parser.add_argument("--check", action="store_true", help="what both sides of the journal hold, and whether it is damaged")
+    parser.add_argument("--records", action="store_true", help="a check lists all records, and not the last 20 alone")
     parser.add_argument("--svg", action="store_true", help="a picture of the lab")
 
 
@@ -48,10 +49,12 @@ def view(args, lab):
     """Looks at a lab by labview, which needs no lock. Its picture and its text go to standard output."""
     if args.check and args.svg:
         raise Wrong(USAGE, "--check and --svg don't go together: look twice")
+    if args.records and not args.check:
+        raise Wrong(USAGE, "--records goes with --check")
     found = labview()
     if not os.path.isdir(lab.path):
         raise Wrong(FOLDER, f"there is no folder {lab.path}; name one by -d")
-    words = [word for word, given in (("--check", args.check), ("--svg", args.svg)) if given]
+    words = [word for word, given in (("--check", args.check), ("--records", args.records), ("--svg", args.svg)) if given]
     return subprocess.run([found, *words, os.path.join(".", lab.path)]).returncode
 
 
