@@ -184,7 +184,7 @@ class Told(Trial):
         room.run("off", "pc4", folder="lab")
         asked = 'source tools/lab.bash; COMP_WORDS=("$@"); COMP_CWORD=$(($# - 1)); _lab; echo "${COMPREPLY[@]}"'
         for words, wanted in ((["de"], ["delete"]), (["in", "r"], ["ring"]), (["-d", "/nowhere", "in", "r"], []), (["off", "b"], ["big1", "big2"]), (["on", ""], ["pc4"]),
-                              (["help", "gr"], ["graph"]), (["in", "ring", "--c"], ["--cost"]), (["in", "ring", "--cost", "p"], ["pack"]), (["set", "demo/rac"], ["demo/rack.ptop"]),
+                              (["help", "gra"], ["graph"]), (["in", "ring", "--c"], ["--cost"]), (["in", "ring", "--cost", "p"], ["pack"]), (["set", "demo/rac"], ["demo/rack.ptop"]),
                               (["-d", "dem"], ["demo"]), (["out", "ring", ""], []), (["--v"], ["--version"])):
             given = words if words[0] == "-d" else ["-d", f"{room.path}/lab", *words]
             ran = subprocess.run(["bash", "-c", asked, "bash", LAB, *given], cwd=TOP, capture_output=True, text=True, env=room.environment())
