@@ -28,6 +28,7 @@ use Rattle.journal_disk.specs.Standing.{side_of, gate_of, IsAt, HasAll}
 use Rattle.journal_disk.specs.Walks.{placed}
 use Rattle.journal_disk.specs.Opening.{both_synced, making}
 use Rattle.journal_disk.specs.Openings.{IsRead, IsOpened}
+use Rattle.journal_disk.proofs.Fronts.{first_read, second_read}
 use Rattle.journal_disk.proofs.Placing.{on_live, new_live, wrong_live}
 use Rattle.std.proofs.lemmas.List.{append-nil}
 use Rattle.plant.specs.Sides.{of_side}
@@ -163,8 +164,6 @@ made_ok (Some t) now a b is_short j read new short is side gate =
     subst (λ (o : Option Told). IfSome o (λ t. IsAt t.trace j [] × HasAll t.trace [])) (sym is) (at, has_all (t.trace ++ making is_short) j [] at)
 
 -- both reads, after both syncs
-pub read_in : (told one two three : Option Told) (a b : List ℕ) → one ≡ with_steps told both_synced → two ≡ one → three ≡ two
-    → IfSome one (λ t. a ≡ reads_in A t) → IfSome two (λ t. b ≡ reads_in B t) → ReadIn three a b
-read_in told one two three a b first second third ra rb =
-    let rb' = subst (λ (o : Option Told). IfSome o (λ t. b ≡ reads_in B t)) second rb in
-    subst (λ (o : Option Told). ReadIn o a b) (sym (third ∙ second)) (are_read told one a b first ra rb')
+pub both_read_in : (told one two : Option Told) (a b : List ℕ) → one ≡ with_steps told both_synced → two ≡ one → IfSome one (λ t. (a ≡ reads_in A t) × (b ≡ reads_in B t)) → ReadIn two a b
+both_read_in told one two a b first second reads =
+    subst (λ (o : Option Told). ReadIn o a b) (sym second) (are_read told one a b first (first_read one a b reads) (second_read one a b reads))

@@ -6,6 +6,7 @@ pub mod Parts
 pub mod Placing
 pub mod Found
 pub mod Made
+mod Fronts
 mod Opening
 pub mod Holding
 mod Shutting

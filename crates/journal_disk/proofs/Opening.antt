@@ -65,12 +65,11 @@ Saw told a b = IfSome told (λ t. (a ≡ (disk A t.trace).reads) × (b ≡ (disk
 still_reads : (trace : List Event) → ((disk A (trace ++ both_synced)).reads ≡ (disk A trace).reads) × ((disk B (trace ++ both_synced)).reads ≡ (disk B trace).reads)
 still_reads trace = (ap (λ (d : Disk). d.reads) (disk_more A trace both_synced), ap (λ (d : Disk). d.reads) (disk_more B trace both_synced))
 
-pub saw : (old one two : Option Told) (a b : List ℕ) → one ≡ with_steps old both_synced → two ≡ one → IfSome one (λ t. a ≡ (disk A t.trace).reads) → IfSome two (λ t. b ≡ (disk B t.trace).reads) → Saw old a b
-saw None one two a b first second ra rb = tt
-saw (Some t) one two a b first second ra rb =
-    let ea : a ≡ (disk A (t.trace ++ both_synced)).reads = subst (λ (o : Option Told). IfSome o (λ t. a ≡ (disk A t.trace).reads)) first ra in
-    let eb : b ≡ (disk B (t.trace ++ both_synced)).reads = subst (λ (o : Option Told). IfSome o (λ t. b ≡ (disk B t.trace).reads)) (second ∙ first) rb in
-    (ea ∙ (still_reads t.trace).0, eb ∙ (still_reads t.trace).1)
+pub saw_both : (old one : Option Told) (a b : List ℕ) → one ≡ with_steps old both_synced → Saw one a b → Saw old a b
+saw_both None one a b first seen = tt
+saw_both (Some t) one a b first seen =
+    let reads : (a ≡ (disk A (t.trace ++ both_synced)).reads) × (b ≡ (disk B (t.trace ++ both_synced)).reads) = subst (λ (o : Option Told). Saw o a b) first seen in
+    (reads.0 ∙ (still_reads t.trace).0, reads.1 ∙ (still_reads t.trace).1)
 
 module _ (old new : Option Told) (result : Result (Journal × Vec Found) OpenFault) where
   -- an exit that knows what was read

@@ -7,5 +7,6 @@ pub mod Heads
 pub mod Opening
 pub mod Openings
 pub mod Reaching
+pub mod Seen
 pub mod Standing
 pub mod Walks

@@ -15,9 +15,9 @@ ghost use Rattle.journal_disk.specs.Before.{IsOpening};
 ghost use Rattle.plant.specs.Events.{Event};
 ghost use Rattle.plant.specs.Told.{with_steps};
 
-use crate::heads::{HEADER, Place, epoch_in, place_in};
+use crate::heads::{HEADER, Place, epoch_in};
 use crate::make::make;
-use crate::sides::{read_side, sync_sides};
+use crate::sides::{read_sides, sync_sides};
 use crate::walk::{FIRST, WalkFault, walk};
 use crate::{Journal, OpenFault};
 use journal_rec::{Found, MAX_JOURNAL};
@@ -73,11 +73,10 @@ impl Journal {
             × IfSome (P.seen plant.old).told (λ t. IsOpening t.trace steps result) }
     {
         sync_sides(plant)?;
-        let a = read_side(alloc, plant, Side::A)?;
-        let b = read_side(alloc, plant, Side::B)?;
-        match place_in(&a, &b) {
+        let sides = read_sides(alloc, plant)?;
+        match sides.place {
             Place::New => {
-                make(plant, a.len() < HEADER)?;
+                make(plant, sides.is_short)?;
                 let gate = FIRST as u64;
                 let journal = Journal {
                     side: Side::A,
@@ -87,8 +86,7 @@ impl Journal {
                 };
                 Ok((journal, Vec::new(alloc)))
             }
-            Place::On(Side::A) => opened(alloc, Side::A, &a, limit),
-            Place::On(Side::B) => opened(alloc, Side::B, &b, limit),
+            Place::On(side) => opened(alloc, side, &sides.live, limit),
             Place::Wrong(side) => Err(OpenFault::Bad { side, at: 0 }),
         }
     }

@@ -1,11 +1,14 @@
-ghost use Rattle.std.specs.Prelude.{◌≡◌, ◌↔◌, ◌≤◌, ◌<◌, ◌+◌, ◌++◌, length, take, drop, vec_len, IfOk, IfSome, OnOk, IsErrOf, IsTrue};
+ghost use Rattle.std.specs.Prelude.{◌≡◌, ◌↔◌, ◌≤◌, ◌<◌, ◌+◌, ◌++◌, length, min, take, drop, vec_len, IfOk, IfSome, OnOk, IsErrOf, IsTrue};
 ghost use Rattle.plant.specs.DiskCalls.{DiskCause};
 ghost use Rattle.plant.specs.Disks.{disk};
 ghost use Rattle.plant.specs.Told.{with_steps};
+ghost use Rattle.plant.specs.declared.step.Side.{Side as AnySide};
 ghost use Rattle.journal_disk.specs.Opening.{both_synced, Syncs, MayMiss};
 ghost use Rattle.journal_disk.specs.Faults.{ReadCause};
+ghost use Rattle.journal_disk.specs.Seen.{AreSeen};
 
 use crate::OpenFault;
+use crate::heads::{HEADER, Place, place_in};
 use plant::{Fault, Plant, Side};
 use std::alloc::Global;
 
@@ -36,6 +39,7 @@ fn read_piece<P: Plant>(
     ensures read { IfSome (P.seen plant.old).told
         (λ t. OnOk result (bytes.new.items ≡ bytes.old.items ++ take size (drop (vec_len bytes.old) (disk side t.trace).reads))) }
     ensures len { OnOk result (vec_len bytes.new ≡ vec_len bytes.old + size) }
+    ensures more { OnOk result (take (vec_len bytes.old) bytes.new.items ≡ bytes.old.items) }
     ensures cause { ReadCause (P.seen plant.old).faults (P.seen plant.new).faults result }
     ensures stopped { IsErrOf result OpenFault.Stopped ↔ IsTrue (P.seen plant.new).stopped }
     ensures still { (P.seen plant.new).stopped ≡ (P.seen plant.old).stopped }
@@ -57,18 +61,122 @@ pub fn piece_of(left: usize) -> usize
     if left < PIECE { left } else { PIECE }
 }
 
-/// Reads a side, piece after piece.
-pub fn read_side<P: Plant>(alloc: Global, plant: &mut P, side: Side) -> Result<Vec<u8>, OpenFault>
+/// Reads on from where the bytes end, piece after piece, until there are so many.
+fn read_to<P: Plant>(
+    plant: &mut P,
+    side: Side,
+    bytes: &mut Vec<u8>,
+    size: usize,
+) -> Result<(), OpenFault>
+    requires running { ¬ IsTrue (P.seen plant.old).stopped }
+    requires more { vec_len bytes.old ≤ size }
+    requires within { IfSome (P.seen plant.old).told (λ t. size ≤ length (disk side t.trace).reads) }
+    requires read { IfSome (P.seen plant.old).told (λ t. bytes.old.items ≡ take (vec_len bytes.old) (disk side t.trace).reads) }
     ensures trace { MayMiss side (P.seen plant.old).told (P.seen plant.new).told result }
-    ensures bytes { IfOk result (λ bytes. IfSome (P.seen plant.old).told (λ t. bytes.items ≡ (disk side t.trace).reads)) }
+    ensures read { OnOk result (IfSome (P.seen plant.old).told (λ t. bytes.new.items ≡ take size (disk side t.trace).reads)) }
+    ensures len { OnOk result (vec_len bytes.new ≡ size) }
+    ensures front { OnOk result (take (vec_len bytes.old) bytes.new.items ≡ bytes.old.items) }
+    ensures cause { ReadCause (P.seen plant.old).faults (P.seen plant.new).faults result }
+    ensures stopped { IsErrOf result OpenFault.Stopped ↔ IsTrue (P.seen plant.new).stopped }
+{
+    bytes.reserve(size - bytes.len())?;
+    while bytes.len() < size {
+        let piece = piece_of(size - bytes.len());
+        read_piece(plant, side, bytes, piece)?;
+    }
+    Ok(())
+}
+
+/// The front of a side: the bytes of its header, or as many as it has, and the size of the whole side.
+#[derive(Drop)]
+struct Front {
+    bytes: Vec<u8>,
+    size: usize,
+}
+
+/// Reads the front of a side.
+fn read_front<P: Plant>(alloc: Global, plant: &mut P, side: Side) -> Result<Front, OpenFault>
+    ensures trace { MayMiss side (P.seen plant.old).told (P.seen plant.new).told result }
+    ensures size { IfOk result (λ front. IfSome (P.seen plant.old).told (λ t. front.size ≡ length (disk side t.trace).reads)) }
+    ensures front { IfOk result (λ front. IfSome (P.seen plant.old).told (λ t. front.bytes.items ≡ take HEADER (disk side t.trace).reads)) }
+    ensures len { IfOk result (λ front. vec_len front.bytes ≡ min front.size HEADER) }
     ensures cause { ReadCause (P.seen plant.old).faults (P.seen plant.new).faults result }
     ensures stopped { IsErrOf result OpenFault.Stopped ↔ IsTrue (P.seen plant.new).stopped }
 {
     let size = plant.length(side)? as usize;
-    let mut bytes = Vec::with_capacity(alloc, size)?;
-    while bytes.len() < size {
-        let piece = piece_of(size - bytes.len());
-        read_piece(plant, side, &mut bytes, piece)?;
-    }
+    let mut bytes = Vec::new(alloc);
+    read_to(plant, side, &mut bytes, size.min(HEADER))?;
+    Ok(Front { bytes, size })
+}
+
+/// The bytes of a whole side, the front of which is read.
+fn read_whole<P: Plant>(plant: &mut P, side: Side, front: Front) -> Result<Vec<u8>, OpenFault>
+    requires running { ¬ IsTrue (P.seen plant.old).stopped }
+    requires size { IfSome (P.seen plant.old).told (λ t. front.size ≡ length (disk side t.trace).reads) }
+    requires front { IfSome (P.seen plant.old).told (λ t. front.bytes.items ≡ take HEADER (disk side t.trace).reads) }
+    requires len { vec_len front.bytes ≡ min front.size HEADER }
+    ensures trace { MayMiss side (P.seen plant.old).told (P.seen plant.new).told result }
+    ensures bytes { IfOk result (λ bytes. IfSome (P.seen plant.old).told (λ t. bytes.items ≡ (disk side t.trace).reads)) }
+    ensures front { IfOk result (λ bytes. take HEADER bytes.items ≡ front.bytes.items) }
+    ensures cause { ReadCause (P.seen plant.old).faults (P.seen plant.new).faults result }
+    ensures stopped { IsErrOf result OpenFault.Stopped ↔ IsTrue (P.seen plant.new).stopped }
+{
+    let mut bytes = front.bytes;
+    read_to(plant, side, &mut bytes, front.size)?;
     Ok(bytes)
+}
+
+/// The sides as an opening reads them: where the journal stands, and of its live side all bytes.
+#[derive(Drop)]
+pub struct Sides {
+    pub place: Place,
+    /// Side A is shorter than a header.
+    pub is_short: bool,
+    /// The bytes of the live side; none where no side is live.
+    pub live: Vec<u8>,
+}
+
+/// The sides where none is live.
+fn no_live(alloc: Global, place: Place, is_short: bool) -> Sides
+    ensures place { result.place ≡ place }
+    ensures is_short { result.is_short ≡ is_short }
+{
+    Sides {
+        place,
+        is_short,
+        live: Vec::new(alloc),
+    }
+}
+
+/// Reads the header of each side, and the rest of the one that is live.
+pub fn read_sides<P: Plant>(alloc: Global, plant: &mut P) -> Result<Sides, OpenFault>
+    ensures trace { (side : AnySide) × MayMiss side (P.seen plant.old).told (P.seen plant.new).told result }
+    ensures sides { IfOk result (λ sides. AreSeen (P.seen plant.old).told sides) }
+    ensures cause { ReadCause (P.seen plant.old).faults (P.seen plant.new).faults result }
+    ensures stopped { IsErrOf result OpenFault.Stopped ↔ IsTrue (P.seen plant.new).stopped }
+{
+    let a = read_front(alloc, plant, Side::A)?;
+    let b = read_front(alloc, plant, Side::B)?;
+    let place = place_in(&a.bytes, &b.bytes);
+    let is_short = a.bytes.len() < HEADER;
+    match place {
+        Place::On(Side::A) => {
+            let live = read_whole(plant, Side::A, a)?;
+            Ok(Sides {
+                place,
+                is_short,
+                live,
+            })
+        }
+        Place::On(Side::B) => {
+            let live = read_whole(plant, Side::B, b)?;
+            Ok(Sides {
+                place,
+                is_short,
+                live,
+            })
+        }
+        Place::New => Ok(no_live(alloc, place, is_short)),
+        Place::Wrong(_) => Ok(no_live(alloc, place, is_short)),
+    }
 }
