@@ -107,6 +107,20 @@ module _ (table : List (List Bool)) (old : List (Option ℕ)) (steps : List Step
       let none = held-set owners position n None way.inside in
       omega (arith, way.counts n, to, none)
 
+-- A NODE THAT WAS GIVEN TO NONE goes to a need of its type
+module _ (owners : List (Option ℕ)) (i n : ℕ) (inside : i < length owners) where
+  pub served_one : (table : List (List Bool)) → AreServed table owners → serves table n i ≡ true → AreServed table (set owners i (Some n))
+  served_one table served can j m e = elim (cases_eq j i) [
+    | inl here ↦
+        let one : owner_at (set owners i (Some n)) j ≡ Some n = ap (λ (k : ℕ). owner_at (set owners i (Some n)) k) here ∙ get_or-set_same owners i (Some n) None inside in
+        let same : n ≡ m = same_need n m (sym one ∙ e) in
+        subst (λ (k : ℕ). serves table m k ≡ true) (sym here) (subst (λ (k : ℕ). serves table k i ≡ true) same can)
+    | inr other ↦ served j m (sym (get_or-set_other owners i j (Some n) None other) ∙ e)
+  ]
+
+  pub held_one : owner_at owners i ≡ None → (m : ℕ) → held (set owners i (Some n)) m ≡ held owners m + one_if (eqb n m)
+  held_one free m = omega (arith, held-set owners i m (Some n) inside, ap (λ (o : Option ℕ). one_if (is_of m o)) free)
+
 -- as many nodes, and each given to a need of its type
 pub whole_still : (old new : Giving) → IsWhole old → KeepsNodes old new → AreServed (table_in new) (owners_in new) → IsWhole new
 whole_still old new whole keeps served = record { wide = wide; served = served }

@@ -11,3 +11,4 @@ mod Spans
 mod Limits
 mod WaitLaws
 mod EndLaws
+mod ServedLaws

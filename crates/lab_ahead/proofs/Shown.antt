@@ -16,7 +16,7 @@ use Rattle.lab_ahead.specs.declared.giving.Giving.{Giving}
 use Rattle.lab_ahead.specs.declared.trail.Step.{Step}
 use Rattle.lab_ahead.specs.declared.trail.Trail.{Trail}
 use Rattle.lab_ahead.specs.Givings.{IsGiving, IsShort, has_type, have_of, need_at, need_of}
-use Rattle.lab_ahead.specs.Trails.{AreMet, AreServed, IsStuck, IsWanting, IsWhole, KeepsNodes, Reached, given_of, held, owner_at, owners_in, serves, step_at, table_in, table_of}
+use Rattle.lab_ahead.specs.Trails.{AreMet, AreServed, IsStuck, IsTable, IsWanting, IsWhole, KeepsNodes, Reached, given_of, held, owner_at, owners_in, serves, step_at, table_in, table_of}
 use Rattle.lab_ahead.proofs.Counting.{count_beside}
 use Rattle.lab_ahead.proofs.TrailLaws.{reached_within}
 use Rattle.lab_ahead.proofs.LookLaws.{served_within}
@@ -29,6 +29,32 @@ no_owner = None
 
 abbrev node_at : List NodeId → ℕ → NodeId
 node_at left i = get_or left i (record { 0 = 0 })
+
+-- nothing is given yet
+pub fresh_whole : (needs nodes : ℕ) (table : List (List Bool)) (giving : Giving) → IsTable needs nodes table → table_in giving ≡ table → owners_in giving ≡ replicate nodes None → IsWhole giving
+fresh_whole needs nodes table giving is same owners = record { wide = wide; served = served }
+  where
+    wide : (n : ℕ) → n < length (table_in giving) → length (get_or (table_in giving) n []) ≡ length (owners_in giving)
+    wide n lt =
+        let there : n < length table = omega (arith, ap (λ (t : List (List Bool)). length t) same) in
+        ap (λ (t : List (List Bool)). length (get_or t n [])) same ∙ is.wide n there ∙ sym (length-replicate nodes None) ∙ ap (λ (o : List (Option ℕ)). length o) (sym owners)
+
+    none_at : (m i : ℕ) → owner_at (replicate m None) i ≡ None
+    none_at m i = elim (cases_lt i m) [ inl lt ↦ get_or-replicate m i None None lt | inr le ↦ get_or_past (replicate m None) i None (omega (arith, length-replicate m no_owner)) ]
+
+    no_need : (n : ℕ) → None ≡ Some n → ⊥
+    no_need n e = cc e
+
+    served : AreServed (table_in giving) (owners_in giving)
+    served i n e = absurd (no_need n (sym (none_at nodes i) ∙ ap (λ (o : List (Option ℕ)). owner_at o i) (sym owners) ∙ e))
+
+-- the needs of a trail are needs of the table
+pub steps_within : (needs : List Need) (last : Giving) → length (table_in last) ≡ length needs → (trail : Trail) → IsWanting needs (table_in last) (owners_in last) trail
+    → (k : ℕ) (d : Step) → k < length trail.steps.items → (get_or trail.steps.items k d).need < length needs
+steps_within needs last wide trail is k d lt =
+    let within : (step_at trail.steps.items k).need < length (table_in last) = reached_within (step_at trail.steps.items k).need is.stuck.is_trail (k, lt, refl) in
+    let same : (get_or trail.steps.items k d).need ≡ (step_at trail.steps.items k).need = ap (λ (s : Step). s.need) (get_or_default trail.steps.items k d (record { need = 0; position = 0; parent = 0 }) lt) in
+    omega arith
 
 module _ (lab : Lab) (left : List NodeId) (needs : List Need) where
   table_wide : length (table_of lab left needs) ≡ length needs
@@ -43,24 +69,13 @@ module _ (lab : Lab) (left : List NodeId) (needs : List Need) where
   serves_is : (n i : ℕ) → n < length needs → i < length left → serves (table_of lab left needs) n i ≡ has_type lab (need_at needs n).kind (node_at left i)
   serves_is n i lt inside = ap (λ (row : List Bool). get_or row i false) (row_of n lt) ∙ get_or-map (has_type lab (need_at needs n).kind) left i (record { 0 = 0 }) false inside
 
-  -- nothing is given yet
-  pub fresh_whole : (giving : Giving) → table_in giving ≡ table_of lab left needs → owners_in giving ≡ replicate (length left) None → IsWhole giving
-  fresh_whole giving table owners = record { wide = wide; served = served }
+  pub is_table : (table : List (List Bool)) → table ≡ table_of lab left needs → IsTable (length needs) (length left) table
+  is_table table is = record { many = ap (λ (t : List (List Bool)). length t) is ∙ table_wide; wide = wide }
     where
-      wide : (n : ℕ) → n < length (table_in giving) → length (get_or (table_in giving) n []) ≡ length (owners_in giving)
+      wide : (n : ℕ) → n < length table → length (get_or table n []) ≡ length left
       wide n lt =
-          let there : n < length needs = omega (arith, ap (λ (t : List (List Bool)). length t) table, table_wide) in
-          ap (λ (t : List (List Bool)). length (get_or t n [])) table ∙ ap (λ (row : List Bool). length row) (row_of n there) ∙ length-map left (has_type lab (need_at needs n).kind)
-          ∙ sym (length-replicate (length left) None) ∙ ap (λ (o : List (Option ℕ)). length o) (sym owners)
-
-      none_at : (m i : ℕ) → owner_at (replicate m None) i ≡ None
-      none_at m i = elim (cases_lt i m) [ inl lt ↦ get_or-replicate m i None None lt | inr le ↦ get_or_past (replicate m None) i None (omega (arith, length-replicate m no_owner)) ]
-
-      no_need : (n : ℕ) → None ≡ Some n → ⊥
-      no_need n e = cc e
-
-      served : AreServed (table_in giving) (owners_in giving)
-      served i n e = absurd (no_need n (sym (none_at (length left) i) ∙ ap (λ (o : List (Option ℕ)). owner_at o i) (sym owners) ∙ e))
+          let there : n < length needs = omega (arith, ap (λ (t : List (List Bool)). length t) is, table_wide) in
+          ap (λ (t : List (List Bool)). length (get_or t n [])) is ∙ ap (λ (row : List Bool). length row) (row_of n there) ∙ length-map left (has_type lab (need_at needs n).kind)
 
   module _ (owners : List (Option ℕ)) (same : length owners ≡ length left) (served : AreServed (table_of lab left needs) owners) where
     -- all needs are met
@@ -169,13 +184,6 @@ module _ (lab : Lab) (left : List NodeId) (needs : List Need) (first last : Givi
 
   wants : (trail : Trail) → IsWanting needs (table_in last) (owners_in last) trail → IsWanting needs (table_of lab left needs) (owners_in last) trail
   wants trail is = subst (λ (t : List (List Bool)). IsWanting needs t (owners_in last) trail) table_is is
-
-  pub steps_within : (trail : Trail) → IsWanting needs (table_in last) (owners_in last) trail → (k : ℕ) (d : Step) → k < length trail.steps.items → (get_or trail.steps.items k d).need < length needs
-  steps_within trail is k d lt =
-      let within : (step_at trail.steps.items k).need < length (table_in last) = reached_within (step_at trail.steps.items k).need is.stuck.is_trail (k, lt, refl) in
-      let wide : length (table_in last) ≡ length needs = ap (λ (t : List (List Bool)). length t) table_is ∙ length-map needs (λ (need : Need). map (has_type lab need.kind) left) in
-      let same : (get_or trail.steps.items k d).need ≡ (step_at trail.steps.items k).need = ap (λ (s : Step). s.need) (get_or_default trail.steps.items k d (record { need = 0; position = 0; parent = 0 }) lt) in
-      omega arith
 
   pub shows_short : (trail : Trail) → IsWanting needs (table_in last) (owners_in last) trail → (kinds : List (List ℕ)) → IsStrictlySortedBy (slice_cmp nat_cmp) kinds
       → ((n : ℕ) → Reached trail.steps.items n → Has kinds (need_at needs n).kind) → ((kind : List ℕ) → Has kinds kind → (n : ℕ) × Reached trail.steps.items n × ((need_at needs n).kind ≡ kind))

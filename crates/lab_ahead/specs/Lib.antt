@@ -4,3 +4,4 @@ pub mod Trails
 pub mod Moments
 pub mod Waits
 pub mod Ends
+pub mod Served

@@ -16,6 +16,11 @@ use Rattle.lab_ahead.specs.Givings.{has_type, need_at}
 abbrev pub table_of : Lab → List NodeId → List Need → List (List Bool)
 table_of lab left needs = map (λ need. map (has_type lab need.kind) left) needs
 
+-- a row for each of so many needs, with an entry for each of so many nodes
+pub record IsTable (needs nodes : ℕ) (table : List (List Bool)) : Type 0 where
+  pub many : length table ≡ needs
+  pub wide : (n : ℕ) → n < length table → length (slice_index_or table n []) ≡ nodes
+
 -- the node at place i has the type of need n
 abbrev pub serves : List (List Bool) → ℕ → ℕ → Bool
 serves table n i = slice_index_or (slice_index_or table n []) i false

@@ -4,12 +4,13 @@ ghost use Rattle.std.specs.List.Sorted.{IsStrictlySortedBy};
 ghost use Rattle.std.specs.Cmp.Lexicographic.{slice_cmp};
 ghost use Rattle.lab_base.specs.Lists.{Has, AllDiffer};
 ghost use Rattle.lab_base.specs.declared.ids.NodeId.{NodeId};
-ghost use Rattle.phys_lab.specs.Labs.{Lab};
+ghost use Rattle.phys_lab.specs.Labs.{Lab as AnyLab};
+ghost use Rattle.phys_lab.specs.Tables.{rows};
 ghost use Rattle.lab_ahead.specs.declared.fitting.Need.{Need};
 ghost use Rattle.lab_ahead.specs.Givings.{Fits, IsShort, IsYes, Shows, need_at};
-ghost use Rattle.lab_ahead.specs.Trails.{Reached, given_of};
+ghost use Rattle.lab_ahead.specs.Trails.{IsTable, Reached, given_of, table_of};
 
-use crate::giving::Giving;
+use crate::giving::{Giving, table_of};
 use crate::read::MAX_PROMISES;
 use crate::trail::Step;
 use lab_base::{Items, Memory, Name, NodeId};
@@ -64,6 +65,26 @@ fn kinds_reached(alloc: Global, needs: &[Need], steps: &[Step]) -> Result<Items<
     Ok(Items::from_vec(kinds))
 }
 
+/// Whether nodes meet needs, by the table that tells by need which of them have its type.
+pub(crate) fn fits_by(
+    alloc: Global,
+    table: Vec<Vec<bool>>,
+    left: &[NodeId],
+    needs: &[Need],
+) -> Result<Fit, Memory>
+    requires differ { AllDiffer left.now }
+    requires few { length needs.now ≤ MAX_PROMISES }
+    requires table { IsTable (length needs.now) (length left.now) (rows table.items) }
+    ensures shows { (lab : AnyLab) → rows table.items ≡ table_of lab left.now needs.now → IfOk result (Shows lab left.now needs.now) }
+    ensures exact { (lab : AnyLab) → rows table.items ≡ table_of lab left.now needs.now → IfOk result (λ fit. IsYes fit ↔ Fits lab left.now needs.now) }
+{
+    let mut giving = Giving::new(alloc, table, left.len())?;
+    match giving.serve_all(alloc, needs)? {
+        None => Ok(Fit::Yes(given_of(alloc, left, &giving.owners)?)),
+        Some(trail) => Ok(Fit::No(kinds_reached(alloc, needs, &trail.steps)?)),
+    }
+}
+
 /// Whether the nodes left meet the needs: each need gets as many nodes of its type as it counts, and no node is given twice.
 /// Nodes are exchanged between needs along trails. `No` comes exactly where no giving exists.
 pub fn fits(alloc: Global, lab: &Lab, left: &[NodeId], needs: &[Need]) -> Result<Fit, Memory>
@@ -73,14 +94,11 @@ pub fn fits(alloc: Global, lab: &Lab, left: &[NodeId], needs: &[Need]) -> Result
     ensures shows { IfOk result (Shows lab.now left.now needs.now) }
     ensures exact { IfOk result (λ fit. IsYes fit ↔ Fits lab.now left.now needs.now) }
 {
-    let mut giving = Giving::new(alloc, lab, left, needs)?;
-    match giving.serve_all(alloc, needs)? {
-        None => Ok(Fit::Yes(given_of(alloc, left, &giving.owners)?)),
-        Some(trail) => Ok(Fit::No(kinds_reached(alloc, needs, &trail.steps)?)),
-    }
+    let table = table_of(alloc, lab, left, needs)?;
+    fits_by(alloc, table, left, needs)
 }
 
 /// Where more nodes of some types are needed together than are left, no giving exists.
 pub fn short_types_never_fit()
-    ensures { (lab : Lab) (left : List NodeId) (needs : List Need) (kinds : List (List ℕ)) → IsShort lab left needs kinds → ¬ Fits lab left needs }
+    ensures { (lab : AnyLab) (left : List NodeId) (needs : List Need) (kinds : List (List ℕ)) → IsShort lab left needs kinds → ¬ Fits lab left needs }
 {}

@@ -1,7 +1,8 @@
 // Nodes given to needs, and exchanged between them.
-ghost use Rattle.std.specs.Prelude.{◌≡◌, ◌<◌, ◌≤◌, ◌+◌, ◌==◌, ℕ, length, map, replicate, IfOk, OnOk, MatchOption, Some, None, true, All, if◌then◌else◌};
+ghost use Rattle.std.specs.Prelude.{◌≡◌, ◌<◌, ◌≤◌, ◌+◌, ◌==◌, ◌↔◌, ℕ, length, map, replicate, IfOk, OnOk, MatchOption, Some, None, true, All, IsTrue, if◌then◌else◌};
 ghost use Rattle.std.specs.List.{list_any};
 ghost use Rattle.lab_base.specs.Names.{same_name};
+ghost use Rattle.phys_lab.specs.Tables.{rows};
 ghost use Rattle.lab_ahead.specs.Givings.{has_type};
 ghost use Rattle.lab_ahead.specs.Trails.{AreMet, Extends, IsClosedAt, IsFree, IsPath, IsSearched, IsTaken, IsTrail, IsStuck, IsWanting, IsWhole, KeepsNodes, held, owner_at, owners_in, serves, step_at, table_in, table_of};
 
@@ -43,24 +44,34 @@ fn row_of(alloc: Global, lab: &Lab, left: &[NodeId], kind: Name) -> Result<Vec<b
     Ok(row)
 }
 
+/// By need, which of the nodes have its type.
+pub(crate) fn table_of(
+    alloc: Global,
+    lab: &Lab,
+    left: &[NodeId],
+    needs: &[Need],
+) -> Result<Vec<Vec<bool>>, Memory>
+    requires { All (λ node. node.0 < length lab.now.nodes) left.now }
+    ensures { IfOk result (λ table. rows table.items ≡ table_of lab.now left.now needs.now) }
+{
+    let mut rows = Vec::new(alloc);
+    for need in needs {
+        rows.push(row_of(alloc, lab, left, need.kind)?)?;
+    }
+    Ok(rows)
+}
+
 impl Giving {
-    /// The giving in which no node is given.
-    pub(crate) fn new(
-        alloc: Global,
-        lab: &Lab,
-        left: &[NodeId],
-        needs: &[Need],
-    ) -> Result<Giving, Memory>
-        requires { All (λ node. node.0 < length lab.now.nodes) left.now }
-        ensures table { IfOk result (λ giving. table_in giving ≡ table_of lab.now left.now needs.now) }
-        ensures owners { IfOk result (λ giving. owners_in giving ≡ replicate (length left.now) None) }
+    /// The giving of so many nodes in which none is given.
+    pub(crate) fn new(alloc: Global, table: Vec<Vec<bool>>, nodes: usize) -> Result<Giving, Memory>
+        ensures rows { IfOk result (λ giving. table_in giving ≡ rows table.items) }
+        ensures owners { IfOk result (λ giving. owners_in giving ≡ replicate nodes None) }
     {
-        let mut rows = Vec::new(alloc);
-        for need in needs {
-            rows.push(row_of(alloc, lab, left, need.kind)?)?;
-        }
-        let owners = vec![in alloc; None; left.len()]?;
-        Ok(Giving { rows, owners })
+        let owners = vec![in alloc; None; nodes]?;
+        Ok(Giving {
+            rows: table,
+            owners,
+        })
     }
 
     fn first_step(&self, alloc: Global, start: u16) -> Result<Trail, Memory>
@@ -170,6 +181,53 @@ impl Giving {
         self.owners[position] = Some(start);
     }
 
+    /// Whether a node is given to no need, and has the type of that one.
+    fn can_give(&self, need: u16, place: usize) -> bool
+        requires whole { IsWhole self.now }
+        requires need { need < length (table_in self.now) }
+        requires place { place < length (owners_in self.now) }
+        ensures { IsTrue result ↔ ((serves (table_in self.now) need place ≡ true) × (owner_at (owners_in self.now) place ≡ None)) }
+    {
+        self.rows[need as usize][place] && self.owners[place].is_none()
+    }
+
+    /// Gives a node to a need, where it is given to none and has the need's type. Tells whether it is.
+    fn give_one(&mut self, need: u16, place: usize) -> bool
+        requires whole { IsWhole self.old }
+        requires need { need < length (table_in self.old) }
+        requires place { place < length (owners_in self.old) }
+        ensures whole { IsWhole self.new }
+        ensures nodes { KeepsNodes self.old self.new }
+        ensures others { (n : ℕ) → (need ≡ n → ⊥) → held (owners_in self.new) n ≡ held (owners_in self.old) n }
+        ensures own { held (owners_in self.new) need ≡ held (owners_in self.old) need + (if result then 1 else 0) }
+    {
+        if !self.can_give(need, place) {
+            return false;
+        }
+        self.owners[place] = Some(need);
+        true
+    }
+
+    /// Gives a need nodes that are given to none, at most so many, and tells how many it gave.
+    fn give(&mut self, need: u16, count: u16) -> u16
+        requires whole { IsWhole self.old }
+        requires need { need < length (table_in self.old) }
+        ensures whole { IsWhole self.new }
+        ensures nodes { KeepsNodes self.old self.new }
+        ensures others { (n : ℕ) → (need ≡ n → ⊥) → held (owners_in self.new) n ≡ held (owners_in self.old) n }
+        ensures own { held (owners_in self.new) need ≡ held (owners_in self.old) need + result }
+        ensures most { result ≤ count }
+    {
+        let mut given = 0;
+        for place in 0..self.owners.len() {
+            if given == count {
+                return given;
+            }
+            given += u16::from(self.give_one(need, place));
+        }
+        given
+    }
+
     /// Gives so many nodes to a need. Where that can't be, it answers the stuck trail.
     fn serve(&mut self, alloc: Global, need: u16, count: u16) -> Result<Option<Trail>, Memory>
         requires whole { IsWhole self.old }
@@ -182,7 +240,8 @@ impl Giving {
             (λ trail. IsStuck (table_in self.new) (owners_in self.new) need trail
             × (held (owners_in self.new) need < held (owners_in self.old) need + count))) }
     {
-        for _given in 0..count {
+        let given = self.give(need, count);
+        for _given in given..count {
             match self.search(alloc, need)? {
                 Search::Free(path) => self.exchange(need, &path),
                 Search::Stuck(trail) => return Ok(Some(trail)),

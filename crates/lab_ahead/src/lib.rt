@@ -7,6 +7,7 @@ mod fitting;
 mod giving;
 mod lines;
 mod read;
+mod served;
 mod times;
 mod trail;
 mod waits;

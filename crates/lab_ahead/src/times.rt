@@ -20,7 +20,7 @@ pub struct Left {
     pub from: u64,
 }
 
-fn holds_at(promise: &Promise, at: u64) -> bool
+pub(crate) fn holds_at(promise: &Promise, at: u64) -> bool
     ensures { result ≡ holds_at at promise.now }
 {
     promise.from <= at && at < promise.to

@@ -9,12 +9,14 @@ ghost use Rattle.lab_ahead.specs.declared.waits.Span.{Span as AnySpan};
 ghost use Rattle.lab_ahead.specs.declared.waits.Wait.{Wait as AnyWait};
 ghost use Rattle.lab_ahead.specs.Givings.{IsShort, has_one, have_of, need_of};
 ghost use Rattle.lab_ahead.specs.Moments.{FitsAt, FitsFor};
+ghost use Rattle.lab_ahead.specs.Served.{KnowsTypes};
 ghost use Rattle.lab_ahead.specs.Waits.{IsShortAt, TellsShort};
 
 use crate::batch::Promise;
-use crate::fitting::{Fit, Need, fits};
+use crate::fitting::{Fit, Need, fits_by};
 use crate::giving::has_type;
 use crate::read::MAX_PROMISES;
+use crate::served::Served;
 use crate::times::{Left, left_at, moments, needs_at};
 use lab_base::{Items, Memory, Name, NodeId};
 use phys_lab::Lab;
@@ -117,23 +119,24 @@ fn wait_for(lab: &Lab, nodes: &[NodeId], needs: &[Need], kinds: Items<Name>, at:
 /// Tests one moment.
 fn wait_at(
     alloc: Global,
-    lab: &Lab,
+    served: &Served<'_>,
     left: &[Left],
-    promises: &[Promise],
     at: u64,
 ) -> Result<Option<Wait>, Memory>
     requires differ { AllDiffer (map (λ entry. entry.node) left.now) }
-    requires of_lab { All (λ entry. entry.node.0 < length lab.now.nodes) left.now }
-    requires few { length promises.now ≤ MAX_PROMISES }
-    ensures fits { IfOk result (λ wait. (wait ≡ None) ↔ FitsAt lab.now left.now promises.now at) }
-    ensures waits { IfOk result (λ wait. IfSome wait (λ w. (w.at ≡ at) × TellsShort lab.now left.now promises.now w)) }
+    requires of_lab { All (λ entry. entry.node.0 < length served.now.lab.now.nodes) left.now }
+    requires few { length served.now.promises.now ≤ MAX_PROMISES }
+    requires served { KnowsTypes served.now }
+    ensures fits { IfOk result (λ wait. (wait ≡ None) ↔ FitsAt served.now.lab.now left.now served.now.promises.now at) }
+    ensures waits { IfOk result (λ wait. IfSome wait (λ w. (w.at ≡ at) × TellsShort served.now.lab.now left.now served.now.promises.now w)) }
 {
     let nodes = left_at(alloc, left, at)?;
-    let needs = needs_at(alloc, promises, at)?;
-    match fits(alloc, lab, nodes.as_slice(), needs.as_slice())? {
+    let needs = needs_at(alloc, served.promises, at)?;
+    let table = served.rows_at(alloc, at, nodes.as_slice())?;
+    match fits_by(alloc, table, nodes.as_slice(), needs.as_slice())? {
         Fit::Yes(_given) => Ok(None),
         Fit::No(kinds) => {
-            let wait = wait_for(lab, nodes.as_slice(), needs.as_slice(), kinds, at);
+            let wait = wait_for(served.lab, nodes.as_slice(), needs.as_slice(), kinds, at);
             Ok(Some(wait))
         }
     }
@@ -155,9 +158,10 @@ pub fn first_wait(
     ensures fits { IfOk result (λ wait. (wait ≡ None) ↔ FitsFor lab.now left.now promises.now span.from span.length) }
     ensures waits { IfOk result (λ wait. IfSome wait (IsShortAt lab.now left.now promises.now span)) }
 {
+    let served = Served::new(alloc, lab, promises)?;
     let tested = moments(alloc, promises, span.from, span.length)?;
     for at in tested.as_slice() {
-        if let Some(wait) = wait_at(alloc, lab, left, promises, *at)? {
+        if let Some(wait) = wait_at(alloc, &served, left, *at)? {
             return Ok(Some(wait));
         }
     }

@@ -1,73 +1,11 @@
-use Rattle.std.proofs.Common.{◌<◌, ℕ, List, Option, MatchOption, length, get_or, sym, ap, subst, ◌∙◌}
-use Rattle.lab_ahead.specs.declared.trail.Step.{Step}
-use Rattle.lab_ahead.specs.declared.trail.Trail.{Trail}
-use Rattle.lab_ahead.specs.Trails.{AreMet, IsWanting, Reached, given_of, owners_in, table_in}
-use Rattle.lab_ahead.proofs.Halls.{never_fits}
-use Rattle.lab_ahead.proofs.Shown.{fresh_whole, shows_giving, shows_short, steps_within}
+use Rattle.lab_ahead.proofs.Shown.{is_table}
 use Rattle.lab_ahead.proofs.fitting.fits.Goals as goal
 
-pub serve_all-requires-clause-whole : goal.serve_all-requires-clause-whole
-serve_all-requires-clause-whole c = fresh_whole c.args.lab.now c.args.left.now c.args.needs.now c.in_ok-giving.giving c.in_ok-giving.ensures.table c.in_ok-giving.ensures.owners
-
-pub returns-in-None-clause-shows : goal.returns-in-None-clause-shows
-returns-in-None-clause-shows c =
-    let needs = c.args.needs.now in
-    let last = c.serve_all.new.self in
-    let now = c.in_ok-serve_all.ensures in
-    let met : AreMet needs (length needs) (owners_in last) =
-    subst (λ (o : Option Trail). MatchOption o (AreMet needs (length needs) (owners_in last)) (IsWanting needs (table_in last) (owners_in last))) c.in-None.is now.answer in
-    shows_giving c.args.lab.now c.args.left.now needs c.in_ok-giving.giving last c.in_ok-giving.ensures.table c.in_ok-giving.ensures.owners now.nodes now.whole c.requires.differ met c.in_ok-given_of-in-None.field-0
-    (c.in_ok-given_of-in-None.ensures ∙ ap (λ (o : List (Option ℕ)). given_of c.args.left.now o) c.deref.ensures.value)
-
-pub returns-in-None-clause-exact : goal.returns-in-None-clause-exact
-returns-in-None-clause-exact c =
-    let needs = c.args.needs.now in
-    let last = c.serve_all.new.self in
-    let now = c.in_ok-serve_all.ensures in
-    let met : AreMet needs (length needs) (owners_in last) =
-    subst (λ (o : Option Trail). MatchOption o (AreMet needs (length needs) (owners_in last)) (IsWanting needs (table_in last) (owners_in last))) c.in-None.is now.answer in (
-      λ _. (
-        c.in_ok-given_of-in-None.field-0,
-        shows_giving c.args.lab.now c.args.left.now needs c.in_ok-giving.giving last c.in_ok-giving.ensures.table c.in_ok-giving.ensures.owners now.nodes now.whole c.requires.differ met c.in_ok-given_of-in-None.field-0
-            (c.in_ok-given_of-in-None.ensures ∙ ap (λ (o : List (Option ℕ)). given_of c.args.left.now o) c.deref.ensures.value),
-      ),
-      λ _. tt,
-    )
-
-pub kinds_reached-requires : goal.kinds_reached-requires
-kinds_reached-requires c =
-    let needs = c.args.needs.now in
-    let last = c.serve_all.new.self in
-    let now = c.in_ok-serve_all.ensures in
-    let wanting : IsWanting needs (table_in last) (owners_in last) c.in-Some.trail =
-    subst (λ (o : Option Trail). MatchOption o (AreMet needs (length needs) (owners_in last)) (IsWanting needs (table_in last) (owners_in last))) c.in-Some.is now.answer in
-    subst (λ (l : List Step). (k : ℕ) (d : Step) → k < length l → (get_or l k d).need < length needs) (sym c.deref-in-Some.ensures.value)
-    (steps_within c.args.lab.now c.args.left.now needs c.in_ok-giving.giving last c.in_ok-giving.ensures.table c.in_ok-giving.ensures.owners now.nodes now.whole c.in-Some.trail wanting)
+pub fits_by-requires-clause-table : goal.fits_by-requires-clause-table
+fits_by-requires-clause-table c = is_table c.args.lab.now c.args.left.now c.args.needs.now _ c.in_ok-table.ensures
 
 pub returns-clause-shows : goal.returns-clause-shows
-returns-clause-shows c =
-    let needs = c.args.needs.now in
-    let last = c.serve_all.new.self in
-    let now = c.in_ok-serve_all.ensures in
-    let found = c.in_ok-kinds_reached-in-Some.ensures in
-    let steps = c.deref-in-Some.ensures.value in
-    let wanting : IsWanting needs (table_in last) (owners_in last) c.in-Some.trail =
-    subst (λ (o : Option Trail). MatchOption o (AreMet needs (length needs) (owners_in last)) (IsWanting needs (table_in last) (owners_in last))) c.in-Some.is now.answer in
-    shows_short c.args.lab.now c.args.left.now needs c.in_ok-giving.giving last c.in_ok-giving.ensures.table c.in_ok-giving.ensures.owners now.nodes now.whole c.in-Some.trail wanting
-    c.in_ok-kinds_reached-in-Some.field-0 found.rising (λ n reached. found.all n (subst (λ (l : List Step). Reached l n) (sym steps) reached))
-    (λ kind has. let from = found.only kind has in (from.0, subst (λ (l : List Step). Reached l from.0) steps from.1, from.2))
+returns-clause-shows c = c.fits_by.ensures.shows c.args.lab.now c.in_ok-table.ensures
 
 pub returns-clause-exact : goal.returns-clause-exact
-returns-clause-exact c =
-    let needs = c.args.needs.now in
-    let last = c.serve_all.new.self in
-    let now = c.in_ok-serve_all.ensures in
-    let found = c.in_ok-kinds_reached-in-Some.ensures in
-    let steps = c.deref-in-Some.ensures.value in
-    let wanting : IsWanting needs (table_in last) (owners_in last) c.in-Some.trail =
-    subst (λ (o : Option Trail). MatchOption o (AreMet needs (length needs) (owners_in last)) (IsWanting needs (table_in last) (owners_in last))) c.in-Some.is now.answer in
-    let short =
-    shows_short c.args.lab.now c.args.left.now needs c.in_ok-giving.giving last c.in_ok-giving.ensures.table c.in_ok-giving.ensures.owners now.nodes now.whole c.in-Some.trail wanting
-    c.in_ok-kinds_reached-in-Some.field-0 found.rising (λ n reached. found.all n (subst (λ (l : List Step). Reached l n) (sym steps) reached))
-    (λ kind has. let from = found.only kind has in (from.0, subst (λ (l : List Step). Reached l from.0) steps from.1, from.2)) in
-    (λ none. absurd none, never_fits c.args.lab.now c.args.left.now needs c.in_ok-kinds_reached-in-Some.field-0 short)
+returns-clause-exact c = c.fits_by.ensures.exact c.args.lab.now c.in_ok-table.ensures

@@ -1,7 +1,7 @@
 use Rattle.std.proofs.Common.{◌≡◌, take}
 use Rattle.phys_lab.specs.Tables.{rows}
 use Rattle.lab_ahead.specs.Trails.{table_of}
-use Rattle.lab_ahead.proofs.giving.Giving.new.Given as goal
+use Rattle.lab_ahead.proofs.giving.table_of.Given as goal
 
 abbrev pub invariant-loop-need : goal.invariant-loop-need
 invariant-loop-need l = rows l.rows.items ≡ table_of l.lab l.left (take l.need-index l.needs)
