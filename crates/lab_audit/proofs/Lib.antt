@@ -1,5 +1,6 @@
 mod Agreeing
 mod AllWanted
+mod ByOwner
 mod Comparing
 pub mod Nothing
 mod Owners

@@ -1,5 +1,5 @@
 -- Whether a node differs, by the first experiment that claims it.
-use Rattle.std.proofs.Common.{◌≡◌, inl, inr, ℕ, zero, suc, ◌<◌, Bool, true, false, List, [], ◌∷◌, Option, Some, None, refl, sym, ap, ◌∙◌, subst, cond, arith, length, take, if◌then◌else◌}
+use Rattle.std.proofs.Common.{◌≡◌, inl, inr, ℕ, zero, suc, ◌<◌, Bool, true, false, List, [], ◌∷◌, Option, Some, None, refl, sym, ap, ◌∙◌, subst, cond, arith, length}
 use Rattle.std.specs.Prelude.{◌↔◌, ◌||◌, is_some, not, slice_get}
 use Rattle.std.specs.List.{find}
 use Rattle.std.proofs.lemmas.Bool.{true≢false, false≢true}
@@ -31,38 +31,10 @@ not_found {X} p (y ∷ xs) is x h = by (p y) refl (λ e g. not_found p xs e x g)
     by false t rest e (inl same) = ap p (sym same) ∙ t
     by false t rest e (inr g) = rest e g
 
--- the first that passes, where none before it does
-pub first_found : {X : Type 0} (p : X → Bool) (xs : List X) (n : ℕ) (x : X) → find p (take n xs) ≡ None → slice_get xs n ≡ Some x → p x ≡ true → find p xs ≡ Some x
-first_found p [] n x none at is = absurd (cc at)
-first_found p (y ∷ xs) zero x none at is = let same : y ≡ x = cc at in ap (λ (b : Bool). cond b (Some y) (find p xs)) (ap p same ∙ is) ∙ ap Some same
-first_found {X} p (y ∷ xs) (suc n) x none at is = by (p y) refl none (λ e. first_found p xs n x e at is)
-  where
-    by : (test : Bool) → p y ≡ test → cond test (Some y) (find p (take n xs)) ≡ None → (find p (take n xs) ≡ None → find p xs ≡ Some x) → cond (p y) (Some y) (find p xs) ≡ Some x
-    by true t e rest = absurd (cc e)
-    by false t e rest = ap (λ (b : Bool). cond b (Some y) (find p xs)) t ∙ rest e
-
-pub none_more : {X : Type 0} (p : X → Bool) (xs : List X) (n : ℕ) (x : X) → find p (take n xs) ≡ None → slice_get xs n ≡ Some x → p x ≡ false → find p (take (suc n) xs) ≡ None
-none_more p [] n x none at is = refl
-none_more p (y ∷ xs) zero x none at is = let same : y ≡ x = cc at in ap (λ (b : Bool). cond b (Some y) (find p [])) (ap p same ∙ is)
-none_more {X} p (y ∷ xs) (suc n) x none at is = by (p y) refl none (λ e. none_more p xs n x e at is)
-  where
-    by : (test : Bool) → p y ≡ test → cond test (Some y) (find p (take n xs)) ≡ None → (find p (take n xs) ≡ None → find p (take (suc n) xs) ≡ None) → cond (p y) (Some y) (find p (take (suc n) xs)) ≡ None
-    by true t e rest = absurd (cc e)
-    by false t e rest = ap (λ (b : Bool). cond b (Some y) (find p (take (suc n) xs))) t ∙ rest e
-
 pub some_at : {X : Type 0} (xs : List X) (n : ℕ) → n < length xs → (x : X) × (slice_get xs n ≡ Some x)
 some_at [] n lt = absurd (omega (arith, lt))
 some_at (x ∷ xs) zero lt = (x, refl)
 some_at (x ∷ xs) (suc n) lt = some_at xs n (omega (arith, lt))
-
--- what a choice by a test tells of it
-pub chosen : {X : Type 0} (test : Bool) (x y : X) → Some y ≡ (if test then Some x else None) → (test ≡ true) × (x ≡ y)
-chosen true x y e = (refl, cc e)
-chosen false x y e = absurd (cc e)
-
-pub not_chosen : {X : Type 0} (test : Bool) (x : X) → None ≡ (if test then Some x else None) → test ≡ false
-not_chosen {X} true x e = absurd (let never : None ≡ Some x = e in cc never)
-not_chosen false x e = refl
 
 -- what stands is claimed, and places what is claimed
 stands_claimed : (wiring : Wiring) (phase : Phase) (m : Mapped) → standing_in wiring phase ≡ Some m → claimed_in wiring phase New ≡ Some m

@@ -86,7 +86,7 @@ fn differs<P: Tables>(
         → (differs ≡ true ↔ Differs lab.now state.now.state.experiments (world_of t.trace) (node_name lab.now node)))) }
 {
     let name = name_at(lab, node);
-    match claimer(state, lab, name.bytes()) {
+    match claimer(state, node) {
         Some(experiment) => is_off(alloc, plant, lab, experiment, node),
         None => is_unwiped(alloc, plant, name),
     }

@@ -6,7 +6,7 @@ use Rattle.lab_base.specs.declared.fault.TextRefused.TheVariants as refused
 use Rattle.tcl_words.specs.Words.{feeds_of, line_at}
 use Rattle.tcl_eval.specs.declared.runs.Ran.{Ran}
 use Rattle.tcl_eval.specs.declared.runs.Ran.TheVariants.{Stopped, Ended}
-use Rattle.tcl_eval.specs.Seen.{Seen}
+use Rattle.tcl_run.specs.Seen.{Seen}
 use Rattle.tcl_eval.specs.State.{State, state}
 use Rattle.tcl_eval.specs.Runs.{HasRun, fault_on}
 use Rattle.virt_topo.specs.Topos.{Topo}

@@ -11,7 +11,8 @@ use crate::host::NsHost;
 use lab_base::{Items, Kind, TextFault, TextRefused};
 use ns_events::Event;
 use std::alloc::Global;
-use tcl_eval::{Interp, Ran};
+use tcl_eval::Ran;
+use tcl_run::Interp;
 use tcl_words::line_of;
 use virt_topo::Topo;
 

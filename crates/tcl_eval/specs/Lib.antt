@@ -9,7 +9,6 @@ pub mod Numbers
 pub mod Once
 pub mod Operators
 pub mod Runs
-pub mod Seen
 pub mod Settings
 pub mod Short
 pub mod State

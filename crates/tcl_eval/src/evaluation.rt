@@ -56,7 +56,7 @@ impl<H: Host> Machine<H> {
 
     /// Runs a command, and gives its result.
     #[cycle(eval)]
-    pub fn command(
+    pub(crate) fn command(
         &mut self,
         text: &[u8],
         command: &Command,

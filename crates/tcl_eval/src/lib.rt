@@ -6,7 +6,6 @@ mod commands;
 mod evaluation;
 mod halts;
 mod hosts;
-mod interp;
 mod laws;
 mod limits;
 mod lists;
@@ -18,6 +17,7 @@ mod operators;
 mod runs;
 
 pub use hosts::{Called, Host, HostFault};
-pub use interp::Interp;
 pub use laws::meaning_is_one;
+pub use limits::BUDGET;
+pub use machine::Machine;
 pub use runs::Ran;

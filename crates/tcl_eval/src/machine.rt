@@ -5,7 +5,7 @@ ghost use Rattle.tcl_eval.specs.declared.commands.Own.TheVariants as owns;
 
 use crate::halts::Halt;
 use crate::hosts::{Called, Host, HostFault};
-use crate::limits::short;
+use crate::limits::{BUDGET, short};
 use crate::lists::{joined, listed, words_from};
 use crate::numbers::{number_text, read_number};
 use crate::operators::added;
@@ -24,12 +24,28 @@ pub struct Machine<H> {
 }
 
 impl<H: Host> Machine<H> {
-    ghost use Rattle.std.specs.Prelude.{◌≡◌, ◌≤◌, ◌∷◌, [], None, Some, Err};
+    ghost use Rattle.std.specs.Prelude.{◌≡◌, ◌≤◌, ◌∷◌, [], None, Some, Err, option_map, nat_eq};
+    ghost use Rattle.std.specs.Map.{lookup};
+    ghost use Rattle.std.specs.Cmp.Lexicographic.{pointwise};
     ghost use Rattle.tcl_eval.specs.Forms.{own};
     ghost use Rattle.tcl_eval.specs.Jobs.{Value, Call};
     ghost use Rattle.tcl_eval.specs.Settings.{step_of};
     ghost use Rattle.tcl_eval.specs.State.{state, read_of, old_or_empty, with_value};
     ghost use Rattle.tcl_eval.specs.Ends.{Ends, Gives};
+
+    /// A machine without variables.
+    pub fn new(alloc: Global, host: H) -> Machine<H>
+        ensures host { result.host ≡ host }
+        ensures variables { result.variables.entries ≡ [] }
+        ensures left { result.left ≡ BUDGET }
+    {
+        Machine {
+            alloc,
+            host,
+            variables: IndexMap::new(alloc),
+            left: BUDGET,
+        }
+    }
 
     /// The host, with the objects that scripts left.
     pub fn into_host(self) -> H
@@ -44,8 +60,15 @@ impl<H: Host> Machine<H> {
         host
     }
 
+    /// The value of a variable, if it is set.
+    pub fn value(&self, name: &Text) -> Option<&Text>
+        ensures { option_map (λ value. value.now) result ≡ lookup (pointwise nat_eq name.now) self.now.variables.entries }
+    {
+        self.variables.get(name)
+    }
+
     /// The value of a variable that has to be set.
-    pub fn read(&self, name: &Text) -> Result<Text, Halt>
+    pub(crate) fn read(&self, name: &Text) -> Result<Text, Halt>
         ensures { Gives (λ r. r ≡ read_of (state self.now.variables.entries (H.objects self.now.host) self.now.left) name.now) result }
     {
         match self.variables.get(name) {
@@ -65,7 +88,7 @@ impl<H: Host> Machine<H> {
     }
 
     /// Gives a variable a value.
-    pub fn write(&mut self, name: &Text, value: &Text) -> Result<(), Memory>
+    pub(crate) fn write(&mut self, name: &Text, value: &Text) -> Result<(), Memory>
         ensures written { OnOk result (state self.new.variables.entries (H.objects self.new.host) self.new.left
             ≡ with_value (state self.old.variables.entries (H.objects self.old.host) self.old.left) name.now value.now) }
         ensures left { self.new.left ≡ self.old.left }
@@ -91,7 +114,7 @@ impl<H: Host> Machine<H> {
     }
 
     /// `set V`, `set V W`
-    pub fn run_set(&mut self, words: &[Text]) -> Result<Text, Halt>
+    pub(crate) fn run_set(&mut self, words: &[Text]) -> Result<Text, Halt>
         requires own { own words.now ≡ Some owns.Set }
         ensures evals { (line l : ℕ) → Ends (H.calls line) H.hears Value l (Call words.now)
             (state self.old.variables.entries (H.objects self.old.host) self.old.left)
@@ -123,7 +146,7 @@ impl<H: Host> Machine<H> {
     }
 
     /// `incr V`, `incr V N`
-    pub fn run_incr(&mut self, words: &[Text]) -> Result<Text, Halt>
+    pub(crate) fn run_incr(&mut self, words: &[Text]) -> Result<Text, Halt>
         requires own { own words.now ≡ Some owns.Incr }
         ensures evals { (line l : ℕ) → Ends (H.calls line) H.hears Value l (Call words.now)
             (state self.old.variables.entries (H.objects self.old.host) self.old.left)
@@ -140,7 +163,7 @@ impl<H: Host> Machine<H> {
     }
 
     /// `append V W ..`
-    pub fn run_append(&mut self, words: &[Text]) -> Result<Text, Halt>
+    pub(crate) fn run_append(&mut self, words: &[Text]) -> Result<Text, Halt>
         requires own { own words.now ≡ Some owns.Append }
         ensures evals { (line l : ℕ) → Ends (H.calls line) H.hears Value l (Call words.now)
             (state self.old.variables.entries (H.objects self.old.host) self.old.left)
@@ -160,7 +183,7 @@ impl<H: Host> Machine<H> {
     }
 
     /// `lappend V W ..`
-    pub fn run_lappend(&mut self, words: &[Text]) -> Result<Text, Halt>
+    pub(crate) fn run_lappend(&mut self, words: &[Text]) -> Result<Text, Halt>
         requires own { own words.now ≡ Some owns.Lappend }
         ensures evals { (line l : ℕ) → Ends (H.calls line) H.hears Value l (Call words.now)
             (state self.old.variables.entries (H.objects self.old.host) self.old.left)
@@ -178,7 +201,7 @@ impl<H: Host> Machine<H> {
     }
 
     /// Has the host obey a command. `line` is that of the present command at the top level.
-    pub fn run_host(&mut self, words: &[Text], line: u32) -> Result<Text, Halt>
+    pub(crate) fn run_host(&mut self, words: &[Text], line: u32) -> Result<Text, Halt>
         requires own { own words.now ≡ None }
         ensures evals { (l : ℕ) → Ends (H.calls line) H.hears Value l (Call words.now)
             (state self.old.variables.entries (H.objects self.old.host) self.old.left)

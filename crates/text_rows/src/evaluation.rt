@@ -4,7 +4,8 @@ ghost use Rattle.tcl_eval.specs.declared.hosts.Called.TheVariants as called;
 
 use lab_base::{Memory, Text, TextRefused};
 use std::alloc::Global;
-use tcl_eval::{Called, Host, HostFault, Interp, Ran};
+use tcl_eval::{Called, Host, HostFault, Ran};
+use tcl_run::Interp;
 
 /// A host without commands.
 #[derive(Drop)]

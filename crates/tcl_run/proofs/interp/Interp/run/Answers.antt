@@ -1,5 +1,5 @@
 use Rattle.tcl_eval.specs.Machines.{seen}
-use Rattle.tcl_eval.proofs.interp.Interp.run.Goals as goal
+use Rattle.tcl_run.proofs.interp.Interp.run.Goals as goal
 
 pub returns-in-Err-clause-runs : goal.returns-in-Err-clause-runs
 unfolding seen

@@ -2,14 +2,10 @@
 
 ghost use Rattle.std.specs.Prelude.{◌≡◌, ◌<◌, length, IfErr};
 
-use crate::hosts::Host;
-use crate::limits::BUDGET;
-use crate::machine::Machine;
-use crate::runs::Ran;
-use indexmap::IndexMap;
 use lab_base::{Memory, TEXT_LIMIT, Text, TextRefused};
 use std::alloc::Global;
 use std::marker::Model;
+use tcl_eval::{BUDGET, Host, Machine, Ran};
 
 /// An interpreter over a host.
 #[derive(Drop)]
@@ -19,7 +15,7 @@ pub struct Interp<H> {
 }
 
 impl<H> Model for Interp<H> {
-    ghost use Rattle.tcl_eval.specs.Seen.{Seen};
+    ghost use Rattle.tcl_run.specs.Seen.{Seen};
 
     ghost Value = { Seen H };
 
@@ -39,12 +35,7 @@ impl<H: Host> Interp<H> {
         ensures { IfOk result (λ interp. interp ≡ record { host = host; variables = []; left = BUDGET; failed = None }) }
     {
         Ok(Interp {
-            machine: Machine {
-                alloc,
-                host,
-                variables: IndexMap::new(alloc),
-                left: BUDGET,
-            },
+            machine: Machine::new(alloc, host),
             failed: None,
         })
     }
@@ -61,7 +52,7 @@ impl<H: Host> Interp<H> {
     pub fn value(&self, name: &Text) -> Option<&Text>
         ensures { option_map (λ value. value.now) result ≡ lookup (pointwise nat_eq name.now) self.now.variables }
     {
-        self.machine.variables.get(name)
+        self.machine.value(name)
     }
 
     /// Runs a text on top of those before. After a fault it answers that fault again.
