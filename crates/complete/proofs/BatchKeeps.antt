@@ -18,7 +18,7 @@ use Rattle.script_text.specs.declared.reply.Reply.TheVariants.{Served as ServedR
 use Rattle.script_text.specs.declared.reply.Served.{Served}
 use Rattle.lab_core.specs.Commands.{LabStep, Serves}
 use Rattle.lab_core.specs.LabSteps.{opened, not_opened}
-use Rattle.lab_core.specs.Moments.{AllStandFor}
+use Rattle.lab_core.specs.Moments.{AllStandFor, with_more}
 use Rattle.lab_core.specs.Promises.{KeepsPromises}
 use Rattle.lab_core.specs.Sessions.{OpenSwap, Session, Closed, Open, Setting, After, Terms}
 use Rattle.lab_top.specs.declared.status.Status.{Status}
@@ -30,7 +30,7 @@ use Rattle.lab_top.proofs.RunLaws.{done, first_sane, told_of}
 
 -- law `promises` of lab_core, clause `served`
 abbrev pub ServesKeep : Type 0
-ServesKeep = (rule : RuleNumber) (moment : ℕ) (text : List ℕ) (trace : List Event) (set : Setting) (s : LabState) (opens to : List OpenSwap) (own : List Event) (after : After) (served : Served)
+ServesKeep = (rule : RuleNumber) (moment : ℕ) (text : List ℕ) (trace : Option (List Event)) (set : Setting) (s : LabState) (opens to : List OpenSwap) (own : List Event) (after : After) (served : Served)
     → Sane s → Serves rule moment text trace set opens s own after → after.reply ≡ Some (ServedReply served) → after.session ≡ Open to → KeepsPromises moment text served after.lab
 
 -- A SETTLING leads from a sane lab to a sane one
@@ -53,12 +53,12 @@ settled_sane s (p ∷ ps) [] steps after sane h = absurd h
 settled_sane s (p ∷ ps) (outcome ∷ outcomes) steps after sane h = settled_sane h.2 ps outcomes h.1 after (one_sane s p outcome h.0 h.2 sane h.3) h.4
 
 -- A LAB STEP of a batch that leaves the controller open
-step_keeps : ServesKeep → (terms : Terms) (at : List Event) (set : Setting) (s : LabState) (moment lines : ℕ) (text : List ℕ) (opening own : List Event) (after : After) (served : Served) (to : List OpenSwap) → Sane s
+step_keeps : ServesKeep → (terms : Terms) (at : Option (List Event)) (set : Setting) (s : LabState) (moment lines : ℕ) (text : List ℕ) (opening own : List Event) (after : After) (served : Served) (to : List OpenSwap) → Sane s
     → after.reply ≡ Some (ServedReply served) → after.session ≡ Open to → (session : Session) → LabStep terms at set s session (Batch moment lines text) opening own after → KeepsPromises moment text served after.lab
 step_keeps law terms at set s moment lines text opening own after served to sane is open_now Closed (opened mid opens d) =
-    law terms.rule moment text (at ++ opening) set mid [] to own after served (settled_sane s _ opens.outcomes opens.moving mid sane opens.settles) d is open_now
+    law terms.rule moment text (with_more at opening) set mid [] to own after served (settled_sane s _ opens.outcomes opens.moving mid sane opens.settles) d is open_now
 step_keeps law terms at set s moment lines text opening own after served to sane is open_now Closed (not_opened b) = absurd (cc (sym b.session ∙ open_now))
-step_keeps law terms at set s moment lines text opening own after served to sane is open_now (Open opens) step = law terms.rule moment text (at ++ opening) set s opens to own after served sane step.1 is open_now
+step_keeps law terms at set s moment lines text opening own after served to sane is open_now (Open opens) step = law terms.rule moment text (with_more at opening) set s opens to own after served sane step.1 is open_now
 
 module _ (law : ServesKeep) (terms : Terms) (choices : Option Choices) (old new : Outside) (status : Status) (before after : List Begun) (b : Begun) (t : Told) (ran : Ran terms choices old new status (before ++ b ∷ after)) (told : old.plant.told ≡ Some t) (sound : IsSound the_texts t.trace) where
   abbrev l : Leads terms (trace_after t.trace before) b.piece
@@ -71,7 +71,7 @@ module _ (law : ServesKeep) (terms : Terms) (choices : Option Choices) (old new 
   ends = record { reply = l.steps.told; lab = l.last; session = l.steps.session }
 
   abbrev StepAs : Command → Type 0
-  StepAs command = LabStep terms (trace_after t.trace before) set l.first b.piece.from command b.piece.opening (b.piece.own ++ l.steps.behind) ends
+  StepAs command = LabStep terms (Some (trace_after t.trace before)) set l.first b.piece.from command b.piece.opening (b.piece.own ++ l.steps.behind) ends
 
   pub batch_keeps : (moment lines : ℕ) (text : List ℕ) (served : Served) → b.piece.command ≡ Batch moment lines text → b.piece.reply ≡ Some (ServedReply served) → is_closed b.piece.to ≡ false
       → (u : LabState) × AllStandFor (trace_after t.trace (before ++ b ∷ [])) u × KeepsPromises moment text served u
@@ -85,7 +85,7 @@ module _ (law : ServesKeep) (terms : Terms) (choices : Option Choices) (old new 
           let all = subst (λ x. ImagesAfter terms x (trace_after t.trace before) b.piece l.last) one (done terms choices old new status before after b t ran told sound).images in (
             l.last,
             subst (λ tr. AllStandFor tr l.last) (sym (trace-push t.trace before b)) all,
-            step_keeps law terms (trace_after t.trace before) set l.first moment lines text b.piece.opening (b.piece.own ++ l.steps.behind) ends served opens
+            step_keeps law terms (Some (trace_after t.trace before)) set l.first moment lines text b.piece.opening (b.piece.own ++ l.steps.behind) ends served opens
                 (first_sane (is_early b.piece) (trace_after t.trace before) l.first l.before) its.0 (its.1 ∙ is) b.piece.from
                 (subst StepAs asks l.steps.step),
           )

@@ -57,7 +57,7 @@ module _ (rule : RuleNumber) (moment : ℕ) where
   behind_calm : (told : List Reply) (reply : Reply) → list_any tells_failed told ≡ false → cuts reply ≡ false → list_any tells_failed (told ++ reply ∷ []) ≡ false
   behind_calm told reply before calm = any_more tells_failed told reply ∙ (λ i. before i || calm_one reply calm i)
 
-  module _ (base : Ground) (trace : List Event) (s : LabState) (opens : List OpenSwap) (start : Serving) (first : start.told ≡ []) where
+  module _ (base : Ground) (trace : Option (List Event)) (s : LabState) (opens : List OpenSwap) (start : Serving) (first : start.told ≡ []) where
     past_calm : (own : List Event) (at : Serving) (u : LabState) (to : List OpenSwap) → Past (runs_in_turn rule moment) base trace start s opens own at u to → (rest : List Event) → GoesWell (own ++ rest) → list_any tells_failed at.told ≡ false
     past_calm own at u to none rest well = ap (list_any tells_failed) first
     past_calm own at u to (more front at' mid between past steps reply lab to' next) rest well =
@@ -69,7 +69,7 @@ module _ (rule : RuleNumber) (moment : ℕ) where
     last_calm at (Some replies.Stopped) before calm = absurd (cc calm)
     last_calm at (Some reply) before calm = behind_calm at.told reply before calm
 
-  pub batch_uncut : (text : List ℕ) (trace : List Event) (set : Setting) (s : LabState) (opens : List OpenSwap) (own rest : List Event) (after : After) → GoesWell (own ++ rest) → Serves rule moment text trace set opens s own after → told_cut after.reply ≡ false
+  pub batch_uncut : (text : List ℕ) (trace : Option (List Event)) (set : Setting) (s : LabState) (opens : List OpenSwap) (own rest : List Event) (after : After) → GoesWell (own ++ rest) → Serves rule moment text trace set opens s own after → told_cut after.reply ≡ false
   batch_uncut text trace set s opens own rest after well (refused reply judged d) = ap (λ (x : After). told_cut x.reply) d.after_is ∙ batch_refuses is_cut refl (λ fault. refl) s text reply judged
   batch_uncut text trace set s opens own rest after well (list_no_memory wants) = ap (λ (x : After). told_cut x.reply) wants.after_is
   batch_uncut text trace set s opens own rest after well (listed start judged (over at lab to past over_here after_is)) =

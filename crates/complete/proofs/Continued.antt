@@ -1,7 +1,7 @@
 -- A command continues the course of each open swap by its experiment's own commands among the command's steps, or begins its leg.
 use Rattle.std.specs.Prelude.{length, nat_le, is_none}
 use Rattle.std.specs.Str.{bytes_eq}
-use Rattle.std.proofs.Common.{◌≡◌, ◌≢◌, ◌⊎◌, inl, inr, ℕ, Bool, true, false, cond, ◌&&◌, ◌||◌, is_some, List, [], ◌∷◌, ◌++◌, Option, Some, None, Result, Ok, Err, refl, sym, ◌∙◌, ap, subst}
+use Rattle.std.proofs.Common.{◌≡◌, ◌≢◌, ◌⊎◌, inl, inr, ℕ, Bool, true, false, cond, ◌&&◌, ◌||◌, ◌≤◌, is_some, List, [], ◌∷◌, ◌++◌, Option, Some, None, Result, Ok, Err, refl, sym, ◌∙◌, ap, subst, arith}
 use Rattle.std.proofs.lemmas.List.{append-nil}
 use Rattle.std.proofs.lemmas.Slice.Eq.{bytes_eq-Decides}
 use Rattle.lab_base.specs.Lists.{AllDiffer, Has}
@@ -27,7 +27,7 @@ use Rattle.records_model.specs.Labs.{LabState, Move, Sane, Says, Creates, Delete
 use Rattle.cost_rule.specs.declared.rule.RuleNumber.{RuleNumber}
 use Rattle.lab_state.specs.Texts.{the_texts}
 use Rattle.swap_turns.specs.Beginning.{opened as opened_swap}
-use Rattle.swap_turns.specs.Legs.{Forth, Undo, commits, last, last_move}
+use Rattle.swap_turns.specs.Legs.{Forth, HasLeg, Undo, commits, last, last_move}
 use Rattle.records_model.proofs.LabLaws.{follows_sane}
 use Rattle.swap_turns.specs.Courses.{IsCut}
 use Rattle.swap_turns.specs.Swaps.{Swap as SwapOf, Moves}
@@ -49,20 +49,26 @@ use Rattle.lab_judge.specs.OpenNames.{is_among, name_of}
 use Rattle.recovery.specs.Due.{is_busy}
 use Rattle.lab_core.proofs.Listings.{IsPlain}
 use Rattle.lab_judge.proofs.Fits.{IsFit, IsOwn, fits}
+use Rattle.complete.specs.Bounds.{commands_in, most_from}
 use Rattle.complete.proofs.OwnCommands.{all_its, only_last}
+use Rattle.complete.proofs.Sending.{commands_both, open_few}
 use Rattle.swap_turns.proofs.Elsewhere.{own_behind, turn_own}
 use Rattle.complete.proofs.OtherSettlings.{due_apart, due_move, last_says, settles_quiet}
 use Rattle.complete.proofs.OtherSwaps.{begins_apart, begun_quiet, calm_quiet, finish_quiet, turn_quiet}
 use Rattle.lab_core.proofs.Others.{IsApart, Stays, busy_apart, ended_stays, move_stays, same_stays, settled_stay, swap_stays, turned_stays}
 
+-- a course goes on by nothing, or to no more commands than its leg has, with those of the undo
+abbrev pub GoesWithin : LabState → RunningSwap → List Event → Type 0
+GoesWithin s o more = (more ≡ []) ⊎ (commands_in (o.course ++ more) ≤ most_from (lab_in s.lab) o.swap o.leg)
+
 -- HOW A COMMAND LEAVES AN OPEN SWAP, from these open swaps and with these steps of its own: its course is continued by its experiment's own commands
 -- among them; or it has begun; or trouble in its course forth began the undo, whose course is empty
 pub data Continues (s u : LabState) (opens : List OpenSwap) (own : List Event) (reply : Option Reply) (o : RunningSwap) : Type 0 where
   along : (q : OpenSwap) → Has opens q → (more : List Event) → o ≡ record q.running { course = q.running.course ++ more } → Stays (name_in q) s u
-      → ((e : Experiment) → find (name_in q) s.experiments ≡ Some e → own_events (lab_in s.lab) e own ≡ more) → Continues s u opens own reply o
+      → ((e : Experiment) → find (name_in q) s.experiments ≡ Some e → own_events (lab_in s.lab) e own ≡ more) → GoesWithin s q.running more → Continues s u opens own reply o
   begun_now : (p : SwapOf) → o ≡ opened_swap p → Moves p u → is_busy (names_of opens) p.name ≡ false
       → (side : Side) (gate : ℕ) (way : Way) → own ≡ added side gate (Begin p.name way) All → Continues s u opens own reply o
-  undone : (why : Trouble) (q : OpenSwap) → Has opens q → o ≡ record q.running { leg = Undo why; course = [] } → u ≡ s → q.running.leg ≡ Forth → IsOneCommand own
+  undone : (why : Trouble) (q : OpenSwap) → Has opens q → o ≡ record q.running { leg = Undo why; course = [] } → u ≡ s → q.running.leg ≡ Forth → HasLeg q.running.swap (Undo why) → IsOneCommand own
       → IsCut (plan_in s q.running) why (q.running.course ++ own) → reply ≡ Some (TroubleReply (name_in q) (what_of why)) → Continues s u opens own reply o
 
 one_found : (name : List ℕ) (s : LabState) (e f : Experiment) → find name s.experiments ≡ Some e → find name s.experiments ≡ Some f → e ≡ f
@@ -114,7 +120,7 @@ not_named (x ∷ opens) exp none o (inr has) same = not_named opens exp (behind 
     behind true b h = absurd (cc h)
     behind false b h = h
 
-is_named : (opens : List OpenSwap) (o : OpenSwap) → Has opens o → is_busy (names_of opens) (name_in o) ≡ true
+pub is_named : (opens : List OpenSwap) (o : OpenSwap) → Has opens o → is_busy (names_of opens) (name_in o) ≡ true
 is_named [] o has = absurd has
 is_named (x ∷ opens) o (inl is) = subst (λ (y : OpenSwap). bytes_eq (name_in x) (name_in y) || is_busy (names_of opens) (name_in y) ≡ true) is (ap (λ b. b || is_busy (names_of opens) (name_in x)) ((bytes_eq-Decides (name_in x) (name_in x)).1 refl))
 is_named (x ∷ opens) o (inr has) = or_true (bytes_eq (name_in x) (name_in o)) _ (is_named opens o has)
@@ -174,7 +180,7 @@ module _ (own : List Event) (set : Setting) (s : LabState) (opens : List OpenSwa
   keep : (o : OpenSwap) (has : Has opens o) → own_events (lab_in s.lab) (moves o has).exp own ≡ [] → Stays (name_in o) s after.lab → Continues s after.lab opens own after.reply o.running
   keep o has quiet stays =
       let m = moves o has in
-      along o has [] (ap (λ c. record o.running { course = c }) (sym (append-nil o.running.course))) stays (λ e found. ap (λ x. own_events (lab_in s.lab) x own) (one_found (name_in o) s e m.exp found m.found) ∙ quiet)
+      along o has [] (ap (λ c. record o.running { course = c }) (sym (append-nil o.running.course))) stays (λ e found. ap (λ x. own_events (lab_in s.lab) x own) (one_found (name_in o) s e m.exp found m.found) ∙ quiet) (inl refl)
 
   all_keep : to ≡ opens → ((o : OpenSwap) (has : Has opens o) → (own_events (lab_in s.lab) (moves o has).exp own ≡ []) × Stays (name_in o) s after.lab) → AllContinue
   all_keep same each o has = let there = subst (λ l. Has l o) same has in let k = each o there in keep o there k.0 k.1
@@ -296,12 +302,13 @@ module _ (own : List Event) (set : Setting) (s : LabState) (opens : List OpenSwa
           let sends = all_its (lab_in s.lab) e d.steps (only_last d.one.swap.running.course d.steps (only_sent (plan_in s d.one.swap.running) turn.1.0 _ turn.1.1)) mine in
           along d.one.swap its d.steps refl (same_stays (name_in d.one.swap) s after.lab (ok d.one.swap its).1 turn.2) (λ f found.
           ap (λ x. own_events (lab_in s.lab) x own) (one_found (name_in d.one.swap) s f e found d.moves.found) ∙ ap (λ l. own_events (lab_in s.lab) e l) own_is ∙ sends)
+          (inr (omega (arith, commands_both d.one.swap.running.course d.steps, open_few s d.one.swap.running d.steps More after.lab turn)))
 
       -- it turned back
       back : (why : Trouble) → d.outcome ≡ TurnsBack why → Continues s after.lab opens own after.reply (record d.one.swap.running { leg = Undo why; course = [] })
       back why is =
           let turn : TurnSteps s d.one.swap.running d.steps (TurnsBack why) after.lab = subst (λ x. TurnSteps s d.one.swap.running d.steps x after.lab) is d.turn in
-          undone why d.one.swap its refl turn.4 turn.2 (subst IsOneCommand (sym own_is) turn.0) (subst (λ l. IsCut (plan_in s d.one.swap.running) why (d.one.swap.running.course ++ l)) (sym own_is) turn.1)
+          undone why d.one.swap its refl turn.4 turn.2 turn.3 (subst IsOneCommand (sym own_is) turn.0) (subst (λ l. IsCut (plan_in s d.one.swap.running) why (d.one.swap.running.course ++ l)) (sym own_is) turn.1)
           (at.3 ∙ ap (λ x. turn_reply d.one.swap.running.swap x) is)
 
       turned : (outcome : Outcome) → d.outcome ≡ outcome → (o : OpenSwap) → Has (turned_on d.one.swap d.steps outcome) o → Continues s after.lab opens own after.reply o.running

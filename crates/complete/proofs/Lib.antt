@@ -25,3 +25,6 @@ mod Sending
 mod StepSends
 mod TurnSends
 mod BatchKeeps
+mod OpenEnds
+mod SwapEnds
+mod Turnings

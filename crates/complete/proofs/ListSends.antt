@@ -35,6 +35,7 @@ use Rattle.complete.specs.Sends.{SwapsWithin, calm, is_list, none, swaps}
 use Rattle.complete.proofs.RunSends.{nothing_behind, of_these}
 use Rattle.complete.proofs.Sending.{commands_both}
 use Rattle.complete.proofs.StepSends.{next_within}
+use Rattle.lab_core.specs.Moments.{with_more}
 
 -- so many in all
 swaps_few : (about : List ℕ → Bool) (own : List Event) (most : ℕ) → SwapsWithin about own most → commands_in own ≤ most
@@ -49,7 +50,7 @@ ListWithin about own = (most : ℕ) × SwapsWithin about own most × (commands_i
 whole : (about : List ℕ → Bool) (own : List Event) → (most : ℕ) × SwapsWithin about own most → ListWithin about own
 whole about own within = (within.0, within.1, swaps_few about own within.0 within.1)
 
-module _ {X : Type 0} (l : Listing X) (Holds : X → Type 0) (about : List ℕ → Bool) (are : IsAboutThese l Holds about) (base : Ground) (trace : List Event) where
+module _ {X : Type 0} (l : Listing X) (Holds : X → Type 0) (about : List ℕ → Bool) (are : IsAboutThese l Holds about) (base : Ground) (trace : Option (List Event)) where
   abbrev Within : List Event → Type 0
   Within own = (most : ℕ) × SwapsWithin about own most
 
@@ -80,7 +81,7 @@ module _ {X : Type 0} (l : Listing X) (Holds : X → Type 0) (about : List ℕ �
   list_within Judged starts s opens own after (listed start judged lists) = lists_within start s opens own after (starts start judged) lists
 
 -- A LAB STEP of a list
-module _ (terms : Terms) (at : List Event) (set : Setting) (s : LabState) (opening own : List Event) (after : After) where
+module _ (terms : Terms) (at : Option (List Event)) (set : Setting) (s : LabState) (opening own : List Event) (after : After) where
   by_does : (about : List ℕ → Bool) (Does : List OpenSwap → LabState → List Event → After → Type 0) → ((opens : List OpenSwap) (mid : LabState) → Does opens mid own after → (most : ℕ) × SwapsWithin about own most) → (session : Session)
       → StepOf None Does terms s session opening own after → (most : ℕ) × SwapsWithin about own most
   by_does about Does within Closed (opened mid opens d) = within [] mid d
@@ -95,10 +96,10 @@ module _ (terms : Terms) (at : List Event) (set : Setting) (s : LabState) (openi
 
   pub step_list : (command : Command) → is_list command ≡ true → (session : Session) → LabStep terms at set s session command opening own after → ListWithin (is_about command) own
   step_list (Play exp from until lines text) yes' session step =
-      whole (is_about (Play exp from until lines text)) own (by_does (is_about (Play exp from until lines text)) (DoesCommand terms.rule (Play exp from until lines text) (at ++ opening) set) (λ opens mid d. list_within (events_in_turn exp) (λ p. Unit {0}) (is_about (Play exp from until lines text)) (events_are exp (is_about (Play exp from until lines text)) ((bytes_eq-Decides exp exp).1 refl)) (ground_by set) (at ++ opening)
+      whole (is_about (Play exp from until lines text)) own (by_does (is_about (Play exp from until lines text)) (DoesCommand terms.rule (Play exp from until lines text) (with_more at opening) set) (λ opens mid d. list_within (events_in_turn exp) (λ p. Unit {0}) (is_about (Play exp from until lines text)) (events_are exp (is_about (Play exp from until lines text)) ((bytes_eq-Decides exp exp).1 refl)) (ground_by set) (with_more at opening)
       (JudgedPlay mid opens exp from until text) (λ start judged. tt) mid opens own after d) session step)
   step_list (BatchOf moment lines text) yes' session step =
-      whole (has_run (batch_of_text text)) own (by_does (has_run (batch_of_text text)) (DoesCommand terms.rule (BatchOf moment lines text) (at ++ opening) set) (λ opens mid d. list_within (runs_in_turn terms.rule moment) (λ p. AreOf (has_run (batch_of_text text)) p.left) (has_run (batch_of_text text)) (runs_are terms.rule moment (has_run (batch_of_text text))) (ground_by set) (at ++ opening)
+      whole (has_run (batch_of_text text)) own (by_does (has_run (batch_of_text text)) (DoesCommand terms.rule (BatchOf moment lines text) (with_more at opening) set) (λ opens mid d. list_within (runs_in_turn terms.rule moment) (λ p. AreOf (has_run (batch_of_text text)) p.left) (has_run (batch_of_text text)) (runs_are terms.rule moment (has_run (batch_of_text text))) (ground_by set) (with_more at opening)
       (JudgedBatch mid text) (starts text mid) mid opens own after d) session step)
   step_list command yes' session step = absurd (cc yes')
 
@@ -110,4 +111,4 @@ module _ (terms : Terms) (choices : Option Choices) (old new : Outside) (status 
       let none_behind = nothing_behind terms choices old new status before after b t ran told sound b.piece.reply answered b.piece.to l.steps.session l.steps.told l.steps.behind l.steps.is_told in
       let own_is : b.piece.own ++ l.steps.behind ≡ b.piece.own = ap (λ m. b.piece.own ++ m) none_behind ∙ append-nil b.piece.own in
       subst (λ o. ListWithin (is_about b.piece.command) o) own_is
-      (step_list terms (trace_after t.trace before) _ l.first b.piece.opening (b.piece.own ++ l.steps.behind) _ b.piece.command listed_it b.piece.from l.steps.step)
+      (step_list terms (Some (trace_after t.trace before)) _ l.first b.piece.opening (b.piece.own ++ l.steps.behind) _ b.piece.command listed_it b.piece.from l.steps.step)

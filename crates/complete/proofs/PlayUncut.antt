@@ -46,7 +46,7 @@ module _ (exp : List ℕ) where
   behind_calm at (replies.In name) before calm = before
   behind_calm at reply before calm = calm
 
-  module _ (base : Ground) (trace : List Event) (s : LabState) (opens : List OpenSwap) (start : Playing) (first : start.ended ≡ None) where
+  module _ (base : Ground) (trace : Option (List Event)) (s : LabState) (opens : List OpenSwap) (start : Playing) (first : start.ended ≡ None) where
     past_calm : (own : List Event) (at : Playing) (u : LabState) (to : List OpenSwap) → Past (events_in_turn exp) base trace start s opens own at u to → (rest : List Event) → GoesWell (own ++ rest) → cut_if at.ended ≡ false
     past_calm own at u to none rest well = ap cut_if first
     past_calm own at u to (more front at' mid between past steps reply lab to' next) rest well =
@@ -58,7 +58,7 @@ module _ (exp : List ℕ) where
     last_calm at (Some replies.Stopped) before calm = absurd (cc calm)
     last_calm at (Some reply) before calm = calm_last (behind_event exp at reply).ended (behind_calm at reply before calm)
 
-  pub plays_uncut : (from until : ℕ) (text : List ℕ) (trace : List Event) (set : Setting) (s : LabState) (opens : List OpenSwap) (own rest : List Event) (after : After) → GoesWell (own ++ rest) → Plays exp from until text trace set opens s own after → cut_if after.reply ≡ false
+  pub plays_uncut : (from until : ℕ) (text : List ℕ) (trace : Option (List Event)) (set : Setting) (s : LabState) (opens : List OpenSwap) (own rest : List Event) (after : After) → GoesWell (own ++ rest) → Plays exp from until text trace set opens s own after → cut_if after.reply ≡ false
   plays_uncut from until text trace set s opens own rest after well (refused reply judged d) =
       ap (λ (x : After). cut_if x.reply) d.after_is ∙ refuse_so cuts (λ s busy exp reply is. idle_uncut s busy 0 exp reply is) (λ exp fault. refl) s opens exp from until text reply judged
   plays_uncut from until text trace set s opens own rest after well (list_no_memory wants) = ap (λ (x : After). cut_if x.reply) wants.after_is

@@ -1,5 +1,5 @@
 -- A list of commands among swaps that are open: each of these is as it was, and none of its commands is among the steps of the list.
-use Rattle.std.proofs.Common.{◌≡◌, ℕ, Bool, true, is_some, List, [], ◌++◌, Option, Some, Result, Ok, refl, sym, ◌∙◌, ap, subst}
+use Rattle.std.proofs.Common.{inl, ◌≡◌, ℕ, Bool, true, is_some, List, [], ◌++◌, Option, Some, Result, Ok, refl, sym, ◌∙◌, ap, subst}
 use Rattle.std.proofs.lemmas.List.{append-nil}
 use Rattle.lab_base.specs.Lists.{AllDiffer, Has}
 use Rattle.phys_lab.specs.Labs.{Lab}
@@ -40,7 +40,7 @@ module _ {X : Type 0} (l : Listing X) (Holds : X → Type 0) (about : List ℕ �
         let f = are.each at holds set s opens j judged in does_keep own set s opens ok moves differ (open_by reply lab to) to refl f.command j f.fit f.plain d
     next_kept set at holds own reply lab to (no_memory wants) = not_shut to (sym (ap (λ (x : After). x.session) wants.after_is))
 
-  module _ (base : Ground) (trace : List Event) (s : LabState) (ok : AreOk s) (moves : AllMoveIn s) where
+  module _ (base : Ground) (trace : Option (List Event)) (s : LabState) (ok : AreOk s) (moves : AllMoveIn s) where
     past_kept : (start : X) → Holds start → (own : List Event) (at : X) (u : LabState) (to : List OpenSwap) → Past l base trace start s opens own at u to → (to ≡ opens) × Kept s ok moves own u × Holds at
     past_kept start first own at u to none = (refl, λ o has. (refl, same_stays (name_in o) s s (ok o has).1 refl, (ok o has).0), first)
     past_kept start holds own at u to (more front at' mid between past steps reply lab to' next) =
@@ -67,10 +67,10 @@ module _ {X : Type 0} (l : Listing X) (Holds : X → Type 0) (about : List ℕ �
         let has = subst (λ (l : List OpenSwap). Has l o) k.0 has_now in
         let each = k.1 o has in
         let m = moves o has in
-        along o has [] (ap (λ c. record o.running { course = c }) (sym (append-nil o.running.course))) each.1 (λ e found. ap (λ x. own_events (lab_in s.lab) x own) (one_found (name_in o) s e m.exp found m.found) ∙ each.0)
+        along o has [] (ap (λ c. record o.running { course = c }) (sym (append-nil o.running.course))) each.1 (λ e found. ap (λ x. own_events (lab_in s.lab) x own) (one_found (name_in o) s e m.exp found m.found) ∙ each.0) (inl refl)
 
   -- THE WHOLE
-  pub list_continues : (JudgedList : Result X Reply → Type 0) → ((start : X) → JudgedList (Ok start) → Holds start) → (base : Ground) (trace : List Event) (s : LabState) (ok : AreOk s) (moves : AllMoveIn s) (own : List Event) (after : After) (to : List OpenSwap) → after.session ≡ Open to → DoesList l JudgedList base trace s opens own after
+  pub list_continues : (JudgedList : Result X Reply → Type 0) → ((start : X) → JudgedList (Ok start) → Holds start) → (base : Ground) (trace : Option (List Event)) (s : LabState) (ok : AreOk s) (moves : AllMoveIn s) (own : List Event) (after : After) (to : List OpenSwap) → after.session ≡ Open to → DoesList l JudgedList base trace s opens own after
       → (o : OpenSwap) → Has to o → Continues s after.lab opens own after.reply o.running
   list_continues JudgedList starts base trace s ok moves own after to open_now (refused reply judged d) =
       kept_continue base trace s ok moves own after.lab to after.reply (

@@ -2,6 +2,7 @@
 use Rattle.std.specs.Prelude.{◌==◌, not, is_some}
 use Rattle.std.proofs.Common.{◌≡◌, ◌⊎◌, ⊎_elim, inl, inr, ℕ, eqb-true, Bool, true, false, List, [], ◌∷◌, ◌++◌, append_assoc, Option, Some, None, refl, sym, ◌∙◌, ap, subst}
 use Rattle.std.proofs.lemmas.List.{append-nil}
+use Rattle.std.proofs.lemmas.Bool.{not-false}
 use Rattle.lab_base.specs.Lists.{Has}
 use Rattle.plant.specs.Told.{Told}
 use Rattle.records_model.specs.Labs.{LabState}
@@ -46,12 +47,8 @@ not_broken replies.Down calm broken = cc calm
 not_broken replies.Stopped calm broken = cc calm
 not_broken reply calm broken = broken
 
-not_false : (b : Bool) → not b ≡ false → b ≡ true
-not_false true is = refl
-not_false false is = absurd (cc is)
-
 none_stuck : (stuck : ℕ) → not (stuck == 0) ≡ false → stuck ≡ 0
-none_stuck stuck is = eqb-true stuck 0 (not_false (stuck == 0) is)
+none_stuck stuck is = eqb-true stuck 0 (not-false (stuck == 0) is)
 
 -- the session that a command finds
 handed_to : (session : Session) (before after : List Begun) (b : Begun) → AreHandedOn session (before ++ b ∷ after) → b.piece.from ≡ session_after session before

@@ -93,7 +93,7 @@ judged_alone (Batch moment lines text) is = absurd (cc is)
 judged_alone Audit is = absurd (cc is)
 judged_alone command is = refl
 
-pub step_not : (terms : Terms) (at : List Event) (set : Setting) (s : LabState) (session : Session) (command : Command) (opening own : List Event) (after : After) → settles_or_turns command ≡ true → LabStep terms at set s session command opening own after → full_if after.reply ≡ false
+pub step_not : (terms : Terms) (at : Option (List Event)) (set : Setting) (s : LabState) (session : Session) (command : Command) (opening own : List Event) (after : After) → settles_or_turns command ≡ true → LabStep terms at set s session command opening own after → full_if after.reply ≡ false
 step_not terms at set s session command opening own after turns step = by (drill_of command) session (plain_step terms at set s session command opening own after (judged_alone command turns) step)
   where
     by : (drill : Option _) (session : Session) → StepOf drill (DoesBy (JudgedBeside terms.rule command) set) terms s session opening own after → full_if after.reply ≡ false

@@ -1,10 +1,9 @@
 -- Over a whole run the course of each open swap is its experiment's own commands since its leg began.
-use Rattle.std.proofs.Common.{Result, Ok, ◌≡◌, ℕ, Bool, true, false, ◌&&◌, is_some, List, [], ◌∷◌, ◌++◌, append_assoc, Option, Some, None, refl, sym, ◌∙◌, ap, subst}
+use Rattle.std.proofs.Common.{Result, Ok, ◌≡◌, ◌≤◌, inl, inr, ℕ, Bool, true, false, ◌&&◌, is_some, List, [], ◌∷◌, ◌++◌, append_assoc, Option, Some, None, refl, sym, ◌∙◌, ap, subst, arith}
 use Rattle.std.proofs.lemmas.List.{append-nil}
 use Rattle.lab_base.specs.Lists.{AllDiffer, Has}
 use Rattle.phys_lab.specs.Labs.{Lab}
 use Rattle.plant.specs.Events.{Event}
-use Rattle.plant.specs.Worlds.{World, world_of}
 use Rattle.plant.specs.declared.drill.Drill.{Drill}
 use Rattle.virt_topo.specs.declared.experiment.Experiment.{Experiment}
 use Rattle.lab_model.specs.OnCourse.{own_events}
@@ -30,6 +29,7 @@ use Rattle.lab_core.proofs.Others.{Stays, same_stays}
 use Rattle.lab_top.specs.Pieces.{Piece, Begun, AreHandedOn, ArePieces, ButForReply, Finds, FirstLab, IsPiece, Leads, StepsFrom, is_closed, session_after, stays_open, steps_of, trace_after}
 use Rattle.lab_top.proofs.TurnLaws.{they_differ}
 use Rattle.complete.specs.Booted.{GoesWell}
+use Rattle.complete.specs.Bounds.{commands_in, most_from}
 use Rattle.complete.specs.OpenCourses.{AreOnLeg, IsCourse, IsOnLeg, forth, steps_in, undo}
 use Rattle.lab_core.proofs.ListSteps.{plain_step}
 use Rattle.complete.proofs.PlayedOn.{list_continues}
@@ -41,7 +41,7 @@ use Rattle.lab_core.proofs.Events.{events_are}
 use Rattle.lab_core.proofs.Listings.{IsAboutThese}
 use Rattle.lab_core.proofs.Runs.{AreOf, runs_are}
 use Rattle.lab_top.proofs.RunLaws.{set_with}
-use Rattle.complete.proofs.Continued.{Continues, along, begun_now, done_continue, undone}
+use Rattle.complete.proofs.Continued.{Continues, GoesWithin, along, begun_now, done_continue, undone}
 use Rattle.complete.proofs.GoingWell.{IsSafe}
 use Rattle.complete.proofs.OpenUncut.{open_safe}
 use Rattle.complete.proofs.OwnCommands.{own_both}
@@ -63,9 +63,11 @@ on_push : (swap : Swap) (leg : Leg) (made : List Begun) (b : Begun) → AreOnLeg
 on_push swap leg [] b are is = (is, tt)
 on_push swap leg (x ∷ made) b are is = (are.0, on_push swap leg made b are.1 is)
 
--- A SWAP IS OPEN behind these commands: its course is as said, and where these and further steps go well, it goes forth
+-- A SWAP IS OPEN behind these commands: its course is as said, no longer than its leg and the undo, and where these and further steps go well, it goes
+-- forth
 pub record IsGoing (made : List Begun) (s : LabState) (o : RunningSwap) : Type 0 where
   pub course : IsCourse made s o
+  pub few : commands_in o.course ≤ most_from (lab_in s.lab) o.swap o.leg
   pub goes_forth : (more : List Event) → GoesWell (steps_in made ++ more) → o.leg ≡ Forth
 
 pub safe_on_course : (made : List Begun) (s : LabState) (o : RunningSwap) → IsCourse made s o → IsSafe (steps_in made) s o
@@ -80,8 +82,8 @@ module _ (made : List Begun) (b : Begun) (s u : LabState) (here : (q : OpenSwap)
   well_before more well = subst GoesWell (ap (λ l. l ++ more) (steps_push made b) ∙ append_assoc (steps_in made) (steps_of b.piece) more) well
 
   went_along : (q : OpenSwap) → Has (opens_of b.piece.from) q → (more : List Event) → Stays (name_in q) s u → ((e : Experiment) → find (name_in q) s.experiments ≡ Some e → own_events (lab_in s.lab) e b.piece.own ≡ more)
-      → IsGoing (made ++ b ∷ []) u (record q.running { course = q.running.course ++ more })
-  went_along q has more stays own =
+      → GoesWithin s q.running more → IsGoing (made ++ b ∷ []) u (record q.running { course = q.running.course ++ more })
+  went_along q has more stays own within =
       let c = (here q has).course in
       let m = c.moves in
       let behind_is : steps_in (c.behind ++ b ∷ []) ≡ steps_in c.behind ++ b.piece.own = steps_push c.behind b ∙ ap (λ l. steps_in c.behind ++ (l ++ b.piece.own)) (unopened q has) in
@@ -97,16 +99,22 @@ module _ (made : List Begun) (b : Begun) (s u : LabState) (here : (q : OpenSwap)
           own = subst (λ (l : Option Lab). own_events (lab_in l) m.exp (steps_in (c.behind ++ b ∷ [])) ≡ q.running.course ++ more) (sym stays.lab)
               (ap (λ l. own_events (lab_in s.lab) m.exp l) behind_is ∙ own_both (lab_in s.lab) m.exp (steps_in c.behind) b.piece.own ∙ (λ i. c.own i ++ own m.exp m.found i));
         };
+        few = subst (λ (l : Option Lab). commands_in (q.running.course ++ more) ≤ most_from (lab_in l) q.running.swap q.running.leg) (sym stays.lab) (no_longer within);
         goes_forth = λ more well. (here q has).goes_forth (steps_of b.piece ++ more) (well_before more well);
       }
+    where
+      no_longer : GoesWithin s q.running more → commands_in (q.running.course ++ more) ≤ most_from (lab_in s.lab) q.running.swap q.running.leg
+      no_longer (inl none) = omega (arith, ap (λ l. commands_in (q.running.course ++ l)) none, ap commands_in (append-nil q.running.course), (here q has).few)
+      no_longer (inr few) = few
 
   pub goes_on : (o : RunningSwap) → Continues s u (opens_of b.piece.from) b.piece.own b.piece.reply o → IsGoing (made ++ b ∷ []) u o
-  goes_on o (along q has more is stays own) = subst (λ (x : RunningSwap). IsGoing (made ++ b ∷ []) u x) (sym is) (went_along q has more stays own)
+  goes_on o (along q has more is stays own within) = subst (λ (x : RunningSwap). IsGoing (made ++ b ∷ []) u x) (sym is) (went_along q has more stays own within)
   goes_on o (begun_now p is moves idle side gate way own) = subst (λ (x : RunningSwap). IsGoing (made ++ b ∷ []) u x) (sym is) (record {
     course = record { moves = moves; front = made; first = b; behind = []; made_are = refl; begins = forth refl idle side gate way own; on_leg = tt; own = refl };
+    few = omega arith;
     goes_forth = λ more well. refl;
   })
-  goes_on o (undone why q has is u_is was_forth one cut reply) = subst (λ (x : RunningSwap). IsGoing (made ++ b ∷ []) u x) (sym is) (record {
+  goes_on o (undone why q has is u_is was_forth undo_is one cut reply) = subst (λ (x : RunningSwap). IsGoing (made ++ b ∷ []) u x) (sym is) (record {
     course = record {
       moves = subst (λ (x : LabState). Moves q.running.swap x) (sym u_is) (here q has).course.moves;
       front = made;
@@ -117,6 +125,7 @@ module _ (made : List Begun) (b : Begun) (s u : LabState) (here : (q : OpenSwap)
       on_leg = tt;
       own = refl;
     };
+    few = omega arith;
     goes_forth = λ more well.
         absurd (safe_on_course made s q.running (here q has).course why b.piece.own more cut (subst (λ l. GoesWell (steps_in made ++ ((l ++ b.piece.own) ++ more))) (unopened q has) (well_before more well)));
   })
@@ -143,40 +152,40 @@ module _ (terms : Terms) (before : List Event) (set : Setting) (s : LabState) (o
 
   -- a list of commands, by what is judged of it
   lists_continue : {X : Type 0} (l : Listing X) (Judged : List OpenSwap → LabState → Result X Reply → Type 0) (Holds : X → Type 0) (about : List ℕ → Bool) → IsAboutThese l Holds about → ((opens : List OpenSwap) (s : LabState) (start : X) → Judged opens s (Ok start) → Holds start)
-      → (session : Session) → AreOk session → AllMoveIn session → AllDiffer (busy_of session) → StepOf None (λ opens s own after. DoesList l (Judged opens s) (ground_by set) (before ++ opening) s opens own after) terms s session opening own after → StepContinues session
+      → (session : Session) → AreOk session → AllMoveIn session → AllDiffer (busy_of session) → StepOf None (λ opens s own after. DoesList l (Judged opens s) (ground_by set) (Some (before ++ opening)) s opens own after) terms s session opening own after → StepContinues session
   lists_continue l Judged Holds about are starts Closed ok moves differ (not_opened b) = absurd (cc (sym b.session ∙ open_now))
   lists_continue l Judged Holds about are starts Closed ok moves differ (opened mid opens d) =
-      (mid, list_continues l Holds about are [] tt (Judged [] mid) (starts [] mid) (ground_by set) (before ++ opening) mid (λ o none. absurd none) (λ o none. absurd none) own after to open_now d, λ o none. absurd none)
+      (mid, list_continues l Holds about are [] tt (Judged [] mid) (starts [] mid) (ground_by set) (Some (before ++ opening)) mid (λ o none. absurd none) (λ o none. absurd none) own after to open_now d, λ o none. absurd none)
   lists_continue l Judged Holds about are starts (Open opens) ok moves differ step =
-      (s, list_continues l Holds about are opens differ (Judged opens s) (starts opens s) (ground_by set) (before ++ opening) s ok moves own after to open_now step.1, λ o has. (refl, step.0))
+      (s, list_continues l Holds about are opens differ (Judged opens s) (starts opens s) (ground_by set) (Some (before ++ opening)) s ok moves own after to open_now step.1, λ o has. (refl, step.0))
 
   -- an audit has no own command of any experiment
-  audit_own : (w : World) (mid : LabState) (opens : List OpenSwap) (lab : Lab) (e : Experiment) → Audits w mid opens own after → own_events lab e own ≡ []
+  audit_own : (w : Option (List Event)) (mid : LabState) (opens : List OpenSwap) (lab : Lab) (e : Experiment) → Audits w mid opens own after → own_events lab e own ≡ []
   audit_own w mid opens lab e (no_lab none d) = ap (λ l. own_events lab e l) d.nothing
-  audit_own w mid opens lab e (all_told report nothing tells exact is) = ap (λ l. own_events lab e l) nothing
+  audit_own w mid opens lab e (all_told report nothing tells is) = ap (λ l. own_events lab e l) nothing
   audit_own w mid opens lab e (unread name own_is is) = ap (λ l. own_events lab e l) own_is
   audit_own w mid opens lab e (no_memory wants) = ap (λ l. own_events lab e l) wants.nothing
 
-  audit_continues : (session : Session) → AreOk session → LabStep terms before set s session Audit opening own after → StepContinues session
+  audit_continues : (session : Session) → AreOk session → LabStep terms (Some before) set s session Audit opening own after → StepContinues session
   audit_continues Closed ok (not_opened b) = absurd (cc (sym b.session ∙ open_now))
   audit_continues Closed ok (opened mid opens d) =
-      (mid, λ o has. absurd (subst (λ l. Has l o) (opens_stay (world_of (before ++ opening)) mid [] own after to open_now d) has), λ o none. absurd none)
+      (mid, λ o has. absurd (subst (λ l. Has l o) (opens_stay (Some (before ++ opening)) mid [] own after to open_now d) has), λ o none. absurd none)
   audit_continues (Open opens) ok step =
-      let w = world_of (before ++ opening) in
+      let w : Option (List Event) = Some (before ++ opening) in
       let same = opens_stay w s opens own after to open_now step.1 in (
         s,
         λ o has.
             let there = subst (λ l. Has l o) same has in
             along o there [] (ap (λ c. record o.running { course = c }) (sym (append-nil o.running.course)))
             (same_stays (name_in o) s after.lab (ok o there).1 (kept w s opens own after step.1))
-            (λ e found. audit_own w s opens (lab_in s.lab) e step.1),
+            (λ e found. audit_own w s opens (lab_in s.lab) e step.1) (inl refl),
         λ o has. (refl, step.0),
       )
 
-  plain_continues : (command : Command) → is_unjudged command ≡ false → drill_of command ≡ None → (session : Session) → AreOk session → AllMoveIn session → AllDiffer (busy_of session) → LabStep terms before set s session command opening own after → StepContinues session
-  plain_continues command no' none session ok moves differ step = step_continues command (drill_of command) none session ok moves differ (plain_step terms before set s session command opening own after no' step)
+  plain_continues : (command : Command) → is_unjudged command ≡ false → drill_of command ≡ None → (session : Session) → AreOk session → AllMoveIn session → AllDiffer (busy_of session) → LabStep terms (Some before) set s session command opening own after → StepContinues session
+  plain_continues command no' none session ok moves differ step = step_continues command (drill_of command) none session ok moves differ (plain_step terms (Some before) set s session command opening own after no' step)
 
-  all_continue : (command : Command) → drill_of command ≡ None → (session : Session) → AreOk session → AllMoveIn session → AllDiffer (busy_of session) → LabStep terms before set s session command opening own after → StepContinues session
+  pub all_continue : (command : Command) → drill_of command ≡ None → (session : Session) → AreOk session → AllMoveIn session → AllDiffer (busy_of session) → LabStep terms (Some before) set s session command opening own after → StepContinues session
   all_continue (Play exp from until lines text) none session ok moves differ step =
       lists_continue (events_in_turn exp) (λ opens s. JudgedPlay s opens exp from until text) (λ at. Unit {0}) (λ n. true) (events_are exp (λ n. true) refl) (λ opens s start judged. tt) session ok moves differ step
   all_continue (Batch moment lines text) none session ok moves differ step =
@@ -201,11 +210,11 @@ GoingAt made trace session = (s : LabState) → IsLabAt trace s → (o : OpenSwa
 -- ONE PIECE, over any trace
 module _ (terms : Terms) (once : StandOnce) (made : List Begun) (trace : List Event) (b : Begun) (is : IsPiece terms trace b.piece) (differ : AllDiffer (busy_of b.piece.from)) (here : GoingAt made trace b.piece.from) where
   -- it is answered where it leaves the session open
-  replied : (opens : List OpenSwap) → b.piece.to ≡ Open opens → (reply : Option Reply) → b.piece.reply ≡ reply → (told : Reply) × (b.piece.reply ≡ Some told)
+  pub replied : (opens : List OpenSwap) → b.piece.to ≡ Open opens → (reply : Option Reply) → b.piece.reply ≡ reply → (told : Reply) × (b.piece.reply ≡ Some told)
   replied opens open_now None told = absurd (cc (sym (is.leaves (ap stays_open told)) ∙ open_now))
   replied opens open_now (Some reply) told = (reply, told)
 
-  sane_set : (s : LabState) → IsLabAt trace s → (o : OpenSwap) → Has (opens_of b.piece.from) o → Sane s × (is_some s.lab ≡ true)
+  pub sane_set : (s : LabState) → IsLabAt trace s → (o : OpenSwap) → Has (opens_of b.piece.from) o → Sane s × (is_some s.lab ≡ true)
   sane_set s at o has =
       let sane = lab_sane the_texts at.records s at.lab_of in
       let m = (here s at o has).course.moves in
@@ -219,7 +228,7 @@ module _ (terms : Terms) (once : StandOnce) (made : List Begun) (trace : List Ev
       let none : steps_of b.piece ≡ [] = ap (λ l. l ++ b.piece.own) finds.0 ∙ finds.1 in
       let at_once = subst (λ l. IsLabAt l u) (ap (λ l. trace ++ l) none ∙ append-nil trace) at in
       goes_on made b u u (here u at_once) (λ q q_has. finds.0) o.running
-      (along o there [] (ap (λ c. record o.running { course = c }) (sym (append-nil o.running.course))) (same_stays (name_in o) u u (sane_set u at_once o there).1 refl) (λ e found. ap (λ l. own_events (lab_in u.lab) e l) finds.1))
+      (along o there [] (ap (λ c. record o.running { course = c }) (sym (append-nil o.running.course))) (same_stays (name_in o) u u (sane_set u at_once o there).1 refl) (λ e found. ap (λ l. own_events (lab_in u.lab) e l) finds.1) (inl refl))
 
   by_leads : drill_of b.piece.command ≡ None → Leads terms trace b.piece → (u : LabState) → IsLabAt (trace ++ steps_of b.piece) u → (opens : List OpenSwap) → b.piece.to ≡ Open opens → (o : OpenSwap) → Has opens o → IsGoing (made ++ b ∷ []) u o.running
   by_leads none l u at opens open_now o has =

@@ -40,7 +40,7 @@ module _ (terms : Terms) (choices : Option Choices) (old new : Outside) (status 
   pub opening_sends : (s : LabState) × FirstLab (is_early b.piece) trace s × OpensWithin s b.piece.opening
   opening_sends =
       let l = (done terms choices old new status before after b t ran told sound).leads in
-      (l.first, l.before, opening_within terms trace _ l.first b.piece.opening (b.piece.own ++ l.steps.behind) _ b.piece.command b.piece.from l.steps.step)
+      (l.first, l.before, opening_within terms (Some trace) _ l.first b.piece.opening (b.piece.own ++ l.steps.behind) _ b.piece.command b.piece.from l.steps.step)
 
   pub nothing_behind : (reply : Option Reply) → is_some reply ≡ true → (to told_to : Session) (told_so : Option Reply) (behind : List Event) → ButForReply reply to told_so told_to behind → behind ≡ []
   nothing_behind None answered to told_to told_so behind is = absurd (cc answered)
@@ -52,7 +52,7 @@ module _ (terms : Terms) (choices : Option Choices) (old new : Outside) (status 
       let l = (done terms choices old new status before after b t ran told sound).leads in
       let none = nothing_behind b.piece.reply answered b.piece.to l.steps.session l.steps.told l.steps.behind l.steps.is_told in
       let own_is : b.piece.own ++ l.steps.behind ≡ b.piece.own = ap (λ m. b.piece.own ++ m) none ∙ append-nil b.piece.own in
-      let step = own_within terms trace _ l.first b.piece.opening (b.piece.own ++ l.steps.behind) _ b.piece.command plain b.piece.from l.steps.step in
+      let step = own_within terms (Some trace) _ l.first b.piece.opening (b.piece.own ++ l.steps.behind) _ b.piece.command plain b.piece.from l.steps.step in
       elim (subst (λ o. (commands_in o ≡ 0) ⊎ ((mid : LabState) × BeginsAt b.piece.from l.first b.piece.opening mid × SendsWithin mid (opens_of b.piece.from) b.piece.command o)) own_is step.1)
       [ inl calm ↦ inl calm | inr x ↦ inr (l.first, l.before, x.0, x.1, x.2) ]
 
@@ -66,12 +66,12 @@ of_these (x ∷ runs) run (inr has) = later (bytes_eq x.exp run.exp) (of_these r
     later true is = refl
     later false is = is
 
-pub run_sends : (rule : RuleNumber) (moment : ℕ) (base : Ground) (trace front steps : List Event) (at : Serving) (s : LabState) (opens : List OpenSwap) (after : After) → DoesNext (runs_in_turn rule moment) base trace front at s opens steps after
+pub run_sends : (rule : RuleNumber) (moment : ℕ) (base : Ground) (trace : Option (List Event)) (front steps : List Event) (at : Serving) (s : LabState) (opens : List OpenSwap) (after : After) → DoesNext (runs_in_turn rule moment) base trace front at s opens steps after
     → (commands_in steps ≡ 0) ⊎ ((exp : List ℕ) × (is_run_of at.left exp ≡ true) × BeginsWithin s exp steps)
 run_sends rule moment base trace front steps at s opens after next =
     next_within (runs_in_turn rule moment) (λ p. AreOf (is_run_of at.left) p.left) (is_run_of at.left) (runs_are rule moment (is_run_of at.left)) base trace front at s opens steps after (of_these at.left) next
 
-pub event_sends : (exp : List ℕ) (base : Ground) (trace front steps : List Event) (at : Playing) (s : LabState) (opens : List OpenSwap) (after : After) → DoesNext (events_in_turn exp) base trace front at s opens steps after
+pub event_sends : (exp : List ℕ) (base : Ground) (trace : Option (List Event)) (front steps : List Event) (at : Playing) (s : LabState) (opens : List OpenSwap) (after : After) → DoesNext (events_in_turn exp) base trace front at s opens steps after
     → (commands_in steps ≡ 0) ⊎ BeginsWithin s exp steps
 event_sends exp base trace front steps at s opens after next =
     elim (next_within (events_in_turn exp) (λ p. Unit {0}) (λ n. bytes_eq n exp) (events_are exp (λ n. bytes_eq n exp) ((bytes_eq-Decides exp exp).1 refl)) base trace front at s opens steps after tt next) [

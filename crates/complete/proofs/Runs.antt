@@ -41,7 +41,7 @@ module _ (terms : Terms) (trace : List Event) (piece : Piece) (more : List Event
       let as_was : piece.own ++ steps.behind ≡ piece.own = ap (λ b. piece.own ++ b) told.2 ∙ append-nil piece.own in
       let goes = subst (λ o. GoesWell ((piece.opening ++ o) ++ more)) (sym as_was) well in
       let safe_here = subst (λ o. AreSafe (o ++ more) piece.command done.leads.first (opens_of piece.from)) (sym as_was) (safe done.leads.first done.leads.before) in
-      sym (ap told_cut told.0) ∙ lab_step_uncut terms trace _ done.leads.first piece.opening (piece.own ++ steps.behind) more _ goes piece.command piece.from safe_here steps.step
+      sym (ap told_cut told.0) ∙ lab_step_uncut terms (Some trace) _ done.leads.first piece.opening (piece.own ++ steps.behind) more _ goes piece.command piece.from safe_here steps.step
 
   opens_well : OpensWell trace piece
   opens_well has =

@@ -24,13 +24,13 @@ use Rattle.records_model.proofs.LabLaws.{in_state-some}
 use Rattle.swap_turns.specs.Beginning.{settling}
 use Rattle.swap_turns.specs.Courses.{IsSent, IsCut, IsHalted, before, within}
 use Rattle.swap_turns.specs.Finishing.{Finishes, Onward, along, back}
-use Rattle.swap_turns.specs.Legs.{Leg, Forth, Undo, Settling as ToSettle, commits, last_move_by, plan_of}
+use Rattle.swap_turns.specs.Legs.{Leg, Forth, HasLeg, Undo, Settling as ToSettle, commits, last_move_by, plan_of}
 use Rattle.swap_turns.specs.Pieces.{has_command}
 use Rattle.swap_turns.specs.Records.{IsWhole, IsBroken, missed, nothing}
 use Rattle.swap_turns.specs.Running.{OpenSwap}
 use Rattle.swap_turns.specs.Settling.{BreaksOff, Settles, SettlesOne}
 use Rattle.swap_turns.specs.Swaps.{Swap}
-use Rattle.swap_turns.specs.Turning.{Outcome, More, TurnsBack, Ended, Stuck, Unwritten, Stopped as IsStopped, TurnSteps, plan_in}
+use Rattle.swap_turns.specs.Turning.{Outcome, More, TurnsBack, Ended, Stuck, Unwritten, Stopped as IsStopped, IsOneCommand, TurnSteps, plan_in}
 use Rattle.swap_turns.specs.Weights.{commands_left}
 use Rattle.swap_turns.proofs.Endings.{append_quiet}
 use Rattle.complete.specs.Bounds.{commands_in, most_after, most_back, most_forth, most_from, most_settled}
@@ -174,6 +174,20 @@ module _ (s : LabState) where
 
   from_forth : (p : Swap) (leg : Leg) → leg ≡ Forth → most_from (lab_in s.lab) p leg ≡ most_forth (lab_in s.lab) p.old p.new + most_after (lab_in s.lab) p.old p.new
   from_forth p leg is = ap (λ (l : Leg). most_from (lab_in s.lab) p l) is
+
+  -- a turn back: what was sent with it on the way forth, and what the undo has
+  pub back_few : (o : OpenSwap) (steps : List Event) (why : Trouble) → IsOneCommand steps → o.leg ≡ Forth → HasLeg o.swap (Undo why) → IsCut (plan_in s o) why (o.course ++ steps)
+      → 1 + (commands_in o.course + most_back (lab_in s.lab) o.swap.old o.swap.new) ≤ most_from (lab_in s.lab) o.swap o.leg
+  back_few o steps why one forth has cut =
+      omega (
+        arith,
+        cut_few (plan_in s o) why (o.course ++ steps) cut,
+        forth_few o.swap o.leg forth,
+        from_forth o.swap o.leg forth,
+        after_is (lab_in s.lab) o.swap.old o.swap.new has,
+        commands_both o.course steps,
+        ap commands_in one.is,
+      )
 
   pub open_few : (o : OpenSwap) (steps : List Event) (outcome : Outcome) (after : LabState) → TurnSteps s o steps outcome after → commands_in o.course + commands_in steps ≤ most_from (lab_in s.lab) o.swap o.leg
   open_few o steps outcome after turn = omega (arith, commands_both o.course steps, turn_few o steps outcome after turn, leg_few o.swap o.leg)

@@ -2,7 +2,6 @@
 use Rattle.std.proofs.Common.{◌≡◌, ◌⊎◌, inl, inr, ℕ, ◌≤◌, Bool, true, false, List, [], ◌∷◌, ◌++◌, append_assoc, Option, Some, None, Result, Ok, Err, length, refl, sym, ◌∙◌, ap, subst, arith}
 use Rattle.lab_base.specs.Lists.{Has}
 use Rattle.plant.specs.Events.{Event}
-use Rattle.plant.specs.Worlds.{World, world_of}
 use Rattle.plant.specs.declared.drill.Drill.{Drill}
 use Rattle.journal_rec.specs.declared.record.Record.{Record}
 use Rattle.journal_rec.specs.declared.record.Record.TheVariants.{Begin}
@@ -35,6 +34,7 @@ use Rattle.complete.specs.Sends.{is_list, BeginsWithin, SendsWithin, TurnsWithin
 use Rattle.complete.proofs.JudgedBegun.{IsBegun, judged_begun}
 use Rattle.complete.proofs.JudgedUncut.{IsJudgedUncut, judged_uncut}
 use Rattle.complete.proofs.Sending.{breaks_few, broken_none, calm_none, commands_both, finish_few, open_few, settled_both, settled_more, whole_none}
+use Rattle.lab_core.specs.Moments.{with_more}
 
 -- what stands behind the steps of a swap has no command
 starts_none : (outcome : Outcome) (behind : List Event) → StartsBehind outcome behind → commands_in behind ≡ 0
@@ -198,7 +198,7 @@ module _ (set : Setting) (s : LabState) (opens : List OpenSwap) (own : List Even
   done_within command terms (no_memory wants) = sends_none (ap commands_in wants.nothing)
 
 -- A LAB STEP of a command that is no list: its opening, and its own part
-module _ (terms : Terms) (at : List Event) (set : Setting) (s : LabState) (opening own : List Event) (after : After) where
+module _ (terms : Terms) (at : Option (List Event)) (set : Setting) (s : LabState) (opening own : List Event) (after : After) where
   abbrev pub StepWithin : Session → Command → Type 0
   StepWithin session command = OpensWithin s opening × ((commands_in own ≡ 0) ⊎ ((mid : LabState) × BeginsAt session s opening mid × SendsWithin mid (opens_of session) command own))
 
@@ -217,16 +217,16 @@ module _ (terms : Terms) (at : List Event) (set : Setting) (s : LabState) (openi
   step_within command None (Open opens) step = (nothing_opened step.0, inr (s, refl, done_within set s opens own after command terms step.1))
 
   -- an audit sends none
-  audit_none : (w : World) (mid : LabState) (opens : List OpenSwap) → Audits w mid opens own after → commands_in own ≡ 0
+  audit_none : (trace : Option (List Event)) (mid : LabState) (opens : List OpenSwap) → Audits trace mid opens own after → commands_in own ≡ 0
   audit_none w mid opens (no_lab none d) = ap commands_in d.nothing
-  audit_none w mid opens (all_told report nothing_is tells exact is) = ap commands_in nothing_is
+  audit_none w mid opens (all_told report nothing_is tells is) = ap commands_in nothing_is
   audit_none w mid opens (unread name own_is is) = ap commands_in own_is
   audit_none w mid opens (wants_in_audit wants) = ap commands_in wants.nothing
 
   audit_within : (session : Session) → LabStep terms at set s session Audit opening own after → StepWithin session Audit
-  audit_within Closed (opened mid opens d) = (opens_few s opening mid opens, inl (audit_none (world_of (at ++ opening)) mid [] d))
+  audit_within Closed (opened mid opens d) = (opens_few s opening mid opens, inl (audit_none (with_more at opening) mid [] d))
   audit_within Closed (not_opened b) = (part_few s opening after.lab b.part, inl (ap commands_in b.nothing))
-  audit_within (Open opens) step = (nothing_opened step.0, inl (audit_none (world_of (at ++ opening)) s opens step.1))
+  audit_within (Open opens) step = (nothing_opened step.0, inl (audit_none (with_more at opening) s opens step.1))
 
   plain_within : (command : Command) → is_unjudged command ≡ false → (session : Session) → LabStep terms at set s session command opening own after → StepWithin session command
   plain_within command no' session step = step_within command (drill_of command) session (plain_step terms at set s session command opening own after no' step)
@@ -238,8 +238,8 @@ module _ (terms : Terms) (at : List Event) (set : Setting) (s : LabState) (openi
   list_opens Of (Open opens) step = nothing_opened step.0
 
   pub opening_within : (command : Command) (session : Session) → LabStep terms at set s session command opening own after → OpensWithin s opening
-  opening_within (Play exp from until lines text) session step = list_opens (DoesCommand terms.rule (Play exp from until lines text) (at ++ opening) set) session step
-  opening_within (Batch moment lines text) session step = list_opens (DoesCommand terms.rule (Batch moment lines text) (at ++ opening) set) session step
+  opening_within (Play exp from until lines text) session step = list_opens (DoesCommand terms.rule (Play exp from until lines text) (with_more at opening) set) session step
+  opening_within (Batch moment lines text) session step = list_opens (DoesCommand terms.rule (Batch moment lines text) (with_more at opening) set) session step
   opening_within Audit session step = (audit_within session step).0
   opening_within command session step = (plain_within command refl session step).0
 
@@ -250,7 +250,7 @@ module _ (terms : Terms) (at : List Event) (set : Setting) (s : LabState) (openi
   own_within command no' session step = plain_within command refl session step
 
 -- THE NEXT COMMAND OF A LIST: a swap of one of its experiments, or none
-module _ {X : Type 0} (l : Listing X) (Holds : X → Type 0) (about : List ℕ → Bool) (are : IsAboutThese l Holds about) (base : Ground) (trace : List Event) where
+module _ {X : Type 0} (l : Listing X) (Holds : X → Type 0) (about : List ℕ → Bool) (are : IsAboutThese l Holds about) (base : Ground) (trace : Option (List Event)) where
   plain_one : (set : Setting) (s : LabState) (opens : List OpenSwap) (own : List Event) (after : After) (command : Command) (busy : Bool) (count : ℕ) → ((n : List ℕ) → name_of command ≡ Some n → about n ≡ true)
       → (j : Result Task Reply) → IsPlain j → IsFit s command busy count j → Does set s opens j own after → (commands_in own ≡ 0) ⊎ ((exp : List ℕ) × (about exp ≡ true) × BeginsWithin s exp own)
   plain_one set s opens own after command busy count named (Err refusal) plain fit d = inl (ap commands_in d.nothing)

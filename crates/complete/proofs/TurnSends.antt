@@ -108,7 +108,7 @@ broken_more events reply exp is (stopped ends told) = absurd (cc (sym told ∙ i
 broken_more events reply exp is (failed once miss told) = absurd (cc (sym told ∙ is))
 broken_more events reply exp is (unanswered told) = none_more exp (sym told ∙ is)
 
-module _ (terms : Terms) (at : List Event) (set : Setting) (s : LabState) (opening own : List Event) (after : After) (to : List OpenSwap) (exp : List ℕ) (replied : after.reply ≡ Some (replies.More exp)) (open_now : after.session ≡ Open to) where
+module _ (terms : Terms) (at : Option (List Event)) (set : Setting) (s : LabState) (opening own : List Event) (after : After) (to : List OpenSwap) (exp : List ℕ) (replied : after.reply ≡ Some (replies.More exp)) (open_now : after.session ≡ Open to) where
   pub step_on : (session : Session) → LabStep terms at set s session (TurnOf exp) opening own after → (mid : LabState) × BeginsAt session s opening mid × TurnsOn mid (opens_of session) to exp own
   step_on Closed (opened mid opens d) = (mid, opens, done_on set mid [] own after to exp replied open_now terms d)
   step_on Closed (not_opened b) = broken_more opening after.reply exp replied b.breaks
@@ -125,6 +125,6 @@ module _ (terms : Terms) (choices : Option Choices) (old new : Outside) (status 
       let own_is : b.piece.own ++ l.steps.behind ≡ b.piece.own = ap (λ m. b.piece.own ++ m) so.2 ∙ append-nil b.piece.own in
       let set : Setting = record { length = l.steps.length; limit = 2 ^ 32; devices = b.piece.faults.devices } in
       let ends : After = record { reply = l.steps.told; lab = l.last; session = l.steps.session } in
-      let step = subst (λ (c : Command). LabStep terms (trace_after t.trace before) set l.first b.piece.from c b.piece.opening (b.piece.own ++ l.steps.behind) ends) asks l.steps.step in
-      let on = step_on terms (trace_after t.trace before) set l.first b.piece.opening (b.piece.own ++ l.steps.behind) ends to exp so.0 (so.1 ∙ open_now) b.piece.from step in
+      let step = subst (λ (c : Command). LabStep terms (Some (trace_after t.trace before)) set l.first b.piece.from c b.piece.opening (b.piece.own ++ l.steps.behind) ends) asks l.steps.step in
+      let on = step_on terms (Some (trace_after t.trace before)) set l.first b.piece.opening (b.piece.own ++ l.steps.behind) ends to exp so.0 (so.1 ∙ open_now) b.piece.from step in
       (l.first, l.before, on.0, on.1, subst (λ m. TurnsOn on.0 (opens_of b.piece.from) to exp m) own_is on.2)

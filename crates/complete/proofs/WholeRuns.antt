@@ -29,7 +29,7 @@ use Rattle.complete.specs.OpenCourses.{IsCourse, steps_in}
 use Rattle.complete.proofs.Runs.{complete}
 use Rattle.complete.proofs.RunCourses.{StandOnce, all_safe, going_after}
 
-stand_once : StandOnce
+pub stand_once : StandOnce
 stand_once trace s u x y = stood_once the_texts _ _ s u texts_once x y
 
 piece_at : (terms : Terms) (trace : List Event) (before after : List Begun) (b : Begun) → ArePieces terms trace (before ++ b ∷ after) → IsSound the_texts trace → IsPiece terms (trace_after trace before) b.piece × IsSound the_texts (trace_after trace before)

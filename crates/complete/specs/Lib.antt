@@ -5,3 +5,4 @@ pub mod OpenCourses
 pub mod Bounds
 pub mod Quiet
 pub mod Sends
+pub mod Ends

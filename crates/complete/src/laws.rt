@@ -1,4 +1,5 @@
-//! Laws of a run: completeness, the course of each open swap, commands that nothing disturbs, how many device commands are sent, and batches.
+//! Laws of a run: completeness, the course of each open swap, commands that nothing disturbs, how many device commands are sent, how open swaps end, and
+//! batches.
 ghost use Rattle.std.specs.Prelude.{◌≡◌, ◌⊎◌, ◌≤◌, ◌+◌, ◌*◌, ℕ, Bool, true, false, is_some, List, [], ◌∷◌, ◌++◌, Option, Some, None};
 ghost use Rattle.lab_base.specs.Lists.{Has};
 ghost use Rattle.plant.specs.Events.{Event};
@@ -15,9 +16,9 @@ ghost use Rattle.swap_turns.specs.Legs.{Forth};
 ghost use Rattle.script_text.specs.Commands.{BadLine, IsScript};
 ghost use Rattle.script_text.specs.Drills.{drill_of};
 ghost use Rattle.script_text.specs.declared.command.Command.{Command};
-ghost use Rattle.script_text.specs.declared.command.Command.TheVariants.{Batch, Recover, SwapinWith, Turn};
+ghost use Rattle.script_text.specs.declared.command.Command.TheVariants.{Batch, Finish, Recover, SwapinWith, Turn};
 ghost use Rattle.script_text.specs.declared.reply.Reply.{Reply};
-ghost use Rattle.script_text.specs.declared.reply.Reply.TheVariants.{More, Recovered, Served as ServedReply};
+ghost use Rattle.script_text.specs.declared.reply.Reply.TheVariants.{In, More, Recovered, Served as ServedReply};
 ghost use Rattle.script_text.specs.declared.reply.Served.{Served};
 ghost use Rattle.cost_rule.specs.declared.rule.RuleNumber.{RuleNumber};
 ghost use Rattle.lab_judge.specs.Playing.{Playing};
@@ -28,16 +29,18 @@ ghost use Rattle.lab_core.specs.Lists.{DoesNext, Ground};
 ghost use Rattle.lab_core.specs.PlayList.{events_in_turn};
 ghost use Rattle.lab_core.specs.Moments.{AllStandFor, IsLabAt};
 ghost use Rattle.lab_core.specs.Promises.{KeepsPromises};
-ghost use Rattle.lab_core.specs.Sessions.{OpenSwap, After, Closed, Open, Session, Setting, Terms};
+ghost use Rattle.lab_core.specs.LabSteps.{done_reply};
+ghost use Rattle.lab_core.specs.Sessions.{OpenSwap, After, Closed, Open, Session, Setting, Terms, open_at};
 ghost use Rattle.lab_core.specs.Tells.{BeginsAt, IsFeasibleFor, busy_of, opens_of, taken_reply};
 ghost use Rattle.lab_top.specs.declared.status.Status.{Status};
 ghost use Rattle.lab_top.specs.declared.status.Status.TheVariants.{BadScript, Done, Memory, ReadFault, WriteFault};
-ghost use Rattle.lab_top.specs.Pieces.{AllRestBut, Begun, FirstLab, commands_of, is_closed, is_early, session_after, steps_of, trace_after};
+ghost use Rattle.lab_top.specs.Pieces.{AllRestBut, AreOn, Begun, FirstLab, commands_of, is_closed, is_early, session_after, steps_of, trace_after};
 ghost use Rattle.lab_top.specs.Ran.{AreAnswered, Outside, Ran, number_of};
 ghost use Rattle.lab_words.specs.Words.{Choices};
 ghost use Rattle.complete.specs.Booted.{GoesWell};
 ghost use Rattle.complete.specs.Bounds.{commands_in, most_from, most_settled, nodes_in, pipes_in, rows_in};
 ghost use Rattle.complete.specs.Complete.{AllGoesWell, AreStepsOf, IsComplete, IsUncut};
+ghost use Rattle.complete.specs.Ends.{FailsOrShuts, MetTrouble, turns_of};
 ghost use Rattle.complete.specs.Full.{full_if, settles_or_turns};
 ghost use Rattle.complete.specs.OpenCourses.{IsCourse};
 ghost use Rattle.complete.specs.Quiet.{IsUndisturbed, LacksRoom};
@@ -80,7 +83,7 @@ pub fn cut_courses()
 
 /// A command that turns a swap or settles is never answered `full journal`: there is room for the records that end moves.
 pub fn turns_have_room()
-    ensures { (terms : Terms) (at : List Event) (set : Setting) (s : LabState) (session : Session) (command : Command)
+    ensures { (terms : Terms) (at : Option (List Event)) (set : Setting) (s : LabState) (session : Session) (command : Command)
         (opening own : List Event) (after : After)
         → settles_or_turns command ≡ true → LabStep terms at set s session command opening own after → full_if after.reply ≡ false }
 {}
@@ -116,7 +119,7 @@ pub fn quiet_commands()
 /// How many device commands a command sends at most, over every sound trace, with trouble or without. Its opening sends no more than it takes to
 /// settle all that move. One that begins a swap sends no more than that move and its undo have, by the rows that the two mappings want, their nodes,
 /// and the pipes on these. One that turns an open swap, once or to its end, sends no more than that leg has left, with its undo. A turn that goes on
-/// sends one of these, so turning ends. `recover` sends no more than it takes to settle all that move and have no open swap. No other command that is
+/// sends one of these. `recover` sends no more than it takes to settle all that move and have no open swap. No other command that is
 /// no list sends any. A list sends no more than its swaps together, each of which is within the same.
 pub fn few_commands()
     ensures opening { (terms : Terms) (choices : Option Choices) (old new : Outside) (status : Status) (before after : List Begun) (b : Begun) (t : Told)
@@ -139,11 +142,13 @@ pub fn few_commands()
         → Ran terms choices old new status (before ++ b ∷ after) → old.plant.told ≡ Some t → IsSound the_texts t.trace
         → is_some b.piece.reply ≡ true → is_list b.piece.command ≡ true
         → (most : ℕ) × SwapsWithin (is_about b.piece.command) b.piece.own most × (commands_in b.piece.own ≤ most) }
-    ensures runs { (rule : RuleNumber) (moment : ℕ) (base : Ground) (trace front steps : List Event) (at : Serving) (s : LabState) (opens : List OpenSwap)
+    ensures runs { (rule : RuleNumber) (moment : ℕ) (base : Ground) (trace : Option (List Event)) (front steps : List Event) (at : Serving) (s : LabState)
+        (opens : List OpenSwap)
         (after : After)
         → DoesNext (runs_in_turn rule moment) base trace front at s opens steps after
         → (commands_in steps ≡ 0) ⊎ ((exp : List ℕ) × (is_run_of at.left exp ≡ true) × BeginsWithin s exp steps) }
-    ensures events { (exp : List ℕ) (base : Ground) (trace front steps : List Event) (at : Playing) (s : LabState) (opens : List OpenSwap) (after : After)
+    ensures events { (exp : List ℕ) (base : Ground) (trace : Option (List Event)) (front steps : List Event) (at : Playing) (s : LabState)
+        (opens : List OpenSwap) (after : After)
         → DoesNext (events_in_turn exp) base trace front at s opens steps after → (commands_in steps ≡ 0) ⊎ BeginsWithin s exp steps }
     ensures swap_in { (lab : Lab) (name : List ℕ) (m : Mapped)
         → most_from lab (record { name = name; old = None; new = Some m }) Forth
@@ -154,6 +159,35 @@ pub fn few_commands()
         → most_from lab (record { name = name; old = Some m; new = Some n }) Forth
         ≡ 2 * (rows_in lab (Some m) + rows_in lab (Some n)) + 68 * nodes_in lab (Some m) + 67 * nodes_in lab (Some n)
         + (pipes_in lab (Some m) + pipes_in lab (Some n)) }
+{}
+
+/// How open swaps end, over any trace, with trouble or without, whatever other commands stand between.
+/// Turning ends: while it is open, a swap is turned at most as often as its leg, with its undo, has device commands that were not sent before. So behind
+/// that many turns, the next one ends it. One `finish` does: behind it the experiment has no open swap.
+/// A swap on its way forth is answered as done by the command that ends it, unless a turn before it told trouble, or that command tells that it failed,
+/// shuts the controller, or has no reply. So `open` with a solution that is feasible leads to `in E`, unless one of these comes between.
+pub fn swaps_end()
+    ensures few { (terms : Terms) (choices : Option Choices) (old new : Outside) (status : Status) (before middle after : List Begun) (t : Told)
+        (s : LabState) (exp : List ℕ) (o : OpenSwap)
+        → Ran terms choices old new status (before ++ (middle ++ after)) → old.plant.told ≡ Some t → IsLabAt (trace_after t.trace before) s
+        → open_at exp (opens_of (session_after Closed before)) ≡ Some o → AreOn exp middle
+        → commands_in o.running.course + turns_of exp middle ≤ most_from (lab_in s.lab) o.running.swap o.running.leg }
+    ensures finished { (terms : Terms) (choices : Option Choices) (old new : Outside) (status : Status) (before after : List Begun) (b : Begun) (t : Told)
+        (exp : List ℕ)
+        → Ran terms choices old new status (before ++ b ∷ after) → old.plant.told ≡ Some t → b.piece.command ≡ Finish exp
+        → open_at exp (opens_of b.piece.to) ≡ None }
+    ensures forth { (terms : Terms) (choices : Option Choices) (old new : Outside) (status : Status) (before middle after : List Begun) (c : Begun)
+        (t : Told) (exp : List ℕ) (o : OpenSwap)
+        → Ran terms choices old new status (before ++ (middle ++ c ∷ after)) → old.plant.told ≡ Some t
+        → open_at exp (opens_of (session_after Closed before)) ≡ Some o → o.running.leg ≡ Forth → AreOn exp middle
+        → open_at exp (opens_of c.piece.to) ≡ None
+        → (c.piece.reply ≡ Some (done_reply exp o.running.swap.new)) ⊎ (MetTrouble exp middle ⊎ FailsOrShuts exp c.piece.reply) }
+    ensures solutions { (terms : Terms) (choices : Option Choices) (old new : Outside) (status : Status) (before middle after : List Begun) (b c : Begun)
+        (t : Told) (exp text : List ℕ) (lines : ℕ)
+        → Ran terms choices old new status (before ++ b ∷ (middle ++ c ∷ after)) → old.plant.told ≡ Some t
+        → b.piece.command ≡ SwapinWith true exp lines text → b.piece.reply ≡ Some (More exp) → AreOn exp middle
+        → open_at exp (opens_of c.piece.to) ≡ None
+        → (c.piece.reply ≡ Some (In exp)) ⊎ (MetTrouble exp middle ⊎ FailsOrShuts exp c.piece.reply) }
 {}
 
 /// A batch that is served in a run, over every sound trace, and leaves the controller open: unless an experiment got stuck by it, all its promises fit

@@ -38,6 +38,7 @@ use Rattle.lab_core.proofs.Places.{does_place}
 use Rattle.lab_core.proofs.Runs.{batch_first, batch_refuses, run_here, stand_in}
 use Rattle.lab_core.proofs.StepLaws.{does_stays}
 use Rattle.lab_core.proofs.TasksApart.{task_apart}
+use Rattle.lab_core.specs.Moments.{with_more}
 
 -- ONE LINE MORE
 pub last_tells : (lab : LabState) (reply : Reply) → TellsPlace reply lab → TellsBefore (there_in lab) [] reply
@@ -125,7 +126,7 @@ module _ (rule : RuleNumber) (moment : ℕ) (runs : List Run) where
   ends_with at last served is = let same : replies.Served (served_of (at.told ++ last ∷ [])) ≡ replies.Served served = same_Some _ _ is in let back : served_of (at.told ++ last ∷ []) ≡ served = cc same in sym back
 
   -- behind some of them
-  module _ (base : Ground) (trace : List Event) where
+  module _ (base : Ground) (trace : Option (List Event)) where
     past_at : (start : Serving) (s : LabState) (opens : List OpenSwap) (own : List Event) (at : Serving) (u : LabState) (to : List OpenSwap) → At start.told start.left s → Past (runs_in_turn rule moment) base trace start s opens own at u to → At at.told at.left u
     past_at start s opens own at u to first none = first
     past_at start s opens own at u to first (more front place mid between past steps reply u' to' next) =
@@ -159,7 +160,7 @@ batch_lab s text start (asked lab needed judged) = has s.lab needed
     has None is = absurd (cc is)
     has (Some l) is = refl
 
-module _ (rule : RuleNumber) (moment : ℕ) (text : List ℕ) (base : Ground) (trace : List Event) (after : After) (served : Served) (replied : after.reply ≡ Some (replies.Served served)) where
+module _ (rule : RuleNumber) (moment : ℕ) (text : List ℕ) (base : Ground) (trace : Option (List Event)) (after : After) (served : Served) (replied : after.reply ≡ Some (replies.Served served)) where
   serves_tell : (s : LabState) (opens : List OpenSwap) (own : List Event) → DoesList (runs_in_turn rule moment) (JudgedBatch s text) base trace s opens own after → BatchTells (there_in after.lab) text served
   serves_tell s opens own (list_refused r judged d) =
       let same : replies.Served served ≡ r = same_Some _ _ (sym replied ∙ ap (λ (a : After). a.reply) d.after_is) in
@@ -179,11 +180,11 @@ breaks_not events reply served is (failed once miss told) = let both : replies.S
 breaks_not events reply served is (unanswered none') = let both : None ≡ Some (replies.Served served) = sym none' ∙ is in absurd (cc both)
 
 -- A LAB STEP of `batch`
-pub batch_tells : (terms : Terms) (at : List Event) (set : Setting) (s : LabState) (session : Session) (moment lines : ℕ) (text : List ℕ) (opening own : List Event) (after : After) (served : Served) → after.reply ≡ Some (replies.Served served)
+pub batch_tells : (terms : Terms) (at : Option (List Event)) (set : Setting) (s : LabState) (session : Session) (moment lines : ℕ) (text : List ℕ) (opening own : List Event) (after : After) (served : Served) → after.reply ≡ Some (replies.Served served)
     → LabStep terms at set s session (commands.Batch moment lines text) opening own after → BatchTells (there_in after.lab) text served
-batch_tells terms at set s Closed moment lines text opening own after served is (opened mid opens done) = serves_tell terms.rule moment text (ground_by set) (at ++ opening) after served is mid [] own done
+batch_tells terms at set s Closed moment lines text opening own after served is (opened mid opens done) = serves_tell terms.rule moment text (ground_by set) (with_more at opening) after served is mid [] own done
 batch_tells terms at set s Closed moment lines text opening own after served is (not_opened b) = breaks_not opening after.reply served is b.breaks
-batch_tells terms at set s (Open opens) moment lines text opening own after served is (none', done) = serves_tell terms.rule moment text (ground_by set) (at ++ opening) after served is s opens own done
+batch_tells terms at set s (Open opens) moment lines text opening own after served is (none', done) = serves_tell terms.rule moment text (ground_by set) (with_more at opening) after served is s opens own done
 
 -- WHAT IS TOLD of one thing is told of another that follows from it
 module _ (Was Is : (Phase → Bool) → List ℕ → Type 0) (to_in : (exp : List ℕ) → Was is_in exp → Is is_in exp) (to_out : (exp : List ℕ) → Was is_out exp → Is is_out exp) where

@@ -289,7 +289,7 @@ module _ (terms : Terms) (set : Setting) (s : LabState) (opens : List OpenSwap) 
       (was (Ok (Finish exp)) terms set s (commands.Finish exp) [] own after None (Open opens) (refl, does judgement (judged ∙ this, judged) d)))
       (finish_or_refused s (is_among (names_of opens) (Some exp)) exp)
 
-  told_end : (at : List Event) (command : Command) (opening : List Event) → IsTurnOf exp command → LabStep terms at set s (Open opens) command opening own after → TellsEnd s exp (replies.In exp) after.lab
+  told_end : (at : Option (List Event)) (command : Command) (opening : List Event) → IsTurnOf exp command → LabStep terms at set s (Open opens) command opening own after → TellsEnd s exp (replies.In exp) after.lab
   told_end at command opening (inl asks) step =
       let turn : LabStep terms at set s (Open opens) (commands.Turn exp) opening own after = subst (λ (c : Command). LabStep terms at set s (Open opens) c opening own after) asks step in
       turn_ends turn.1
@@ -297,7 +297,7 @@ module _ (terms : Terms) (set : Setting) (s : LabState) (opens : List OpenSwap) 
       let finish : LabStep terms at set s (Open opens) (commands.Finish exp) opening own after = subst (λ (c : Command). LabStep terms at set s (Open opens) c opening own after) asks step in
       finish_ends finish.1
 
-  pub ended_by : (at : List Event) (command : Command) (opening : List Event) → IsTurnOf exp command → LabStep terms at set s (Open opens) command opening own after → AllMove opens s → GoesIn opens s exp text → IsInBy after.lab exp text
+  pub ended_by : (at : Option (List Event)) (command : Command) (opening : List Event) → IsTurnOf exp command → LabStep terms at set s (Open opens) command opening own after → AllMove opens s → GoesIn opens s exp text → IsInBy after.lab exp text
   ended_by at command opening turns step all g =
       let o = has_at exp opens g.swap g.is_open in
       let m = all g.swap o.0 in

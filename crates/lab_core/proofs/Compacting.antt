@@ -201,6 +201,7 @@ module _ (s : LabState) (j : Journal) (told now : Option Told) (work : AtWork th
         let long = length_at trace k ps has.0 in
         let live = live_at trace k ps has.0 has.1 in
         record {
+          packed = (reads_on trace (side_of k) ps has.0.opened).reads;
           length_is = subst (λ n. IsLengthAt trace n) (length_is ∙ packed_side packed ps are.bytes) long;
           live = subst (λ n. IsLiveAt trace (other_side (side_of j)) n) epoch (subst (λ x. IsLiveAt trace x (epoch_of k)) side live);
         }

@@ -8,7 +8,7 @@ use Rattle.lab_base.proofs.Numbers.{Rose_since}
 use Rattle.plant.specs.Disks.{ArePossible}
 use Rattle.plant.specs.Events.{Event, Restarted}
 use Rattle.plant.specs.Seen.{Seen}
-use Rattle.plant.specs.Told.{Told, with_steps}
+use Rattle.plant.specs.Told.{with_steps}
 use Rattle.plant.proofs.Traces.{with_steps-nil, with_steps-append}
 use Rattle.records_model.specs.Labs.{LabState}
 use Rattle.records_model.specs.Works.{IsSound}
@@ -25,12 +25,12 @@ use Rattle.lab_core.specs.declared.fault.CoreFault.TheVariants as faults
 use Rattle.lab_core.specs.Controller.{Control, WorksWith}
 use Rattle.lab_judge.specs.Judge.{Task, Recover}
 use Rattle.lab_core.specs.LabSteps.{IsDoneBy}
-use Rattle.lab_core.specs.Moments.{IsLengthAt}
-use Rattle.lab_core.specs.Obey.{AnswersBy, EndsBy, Obeys, Shuts, StepsBy, Start, start_of, IsDone, Leaves, Answers, ObeySteps, Obeyed, WantsIn, reply_of, stays_at_work, undone, between as recovering}
+use Rattle.lab_core.specs.Moments.{IsLengthAt, IsLengthBehind, trace_in}
+use Rattle.lab_core.specs.Obey.{AllShut, AnswersBy, EndsBy, Obeys, Shuts, Start, start_of, Obeyed, WantsIn, done_as, reply_of, stays_at_work, undone, between as recovering}
 use Rattle.lab_core.specs.Sessions.{OpenSwap, Closed, After, Setting, AreOpenedBy, WereOpen, blames_now, counted_from, ends_swap, name_in, open_by, shut_by}
 use Rattle.lab_core.specs.Lists.{DoesNext, Listing, Past, broken, last_reply, more, none, over}
 use Rattle.lab_core.specs.Coming.{AllDone, AllWants, HasComeTo, Origin, TellsAll, ground_of}
-use Rattle.lab_core.proofs.Obey.{calm_ends, shut_ends}
+use Rattle.lab_core.proofs.Obey.{calm_ends, in_trace, of_trace, shut_ends, trace_back, IsDone, Leaves, Answers, ObeyEnds}
 
 -- THE LENGTH as the sides read, of a controller that stands
 pub standing_length : (trace : List Event) (c : Control) → Stands the_texts trace c.journal c.lab → IsLengthAt trace (length_of c.journal)
@@ -58,11 +58,17 @@ were_opened exp reply old new count stays were o has = inr (stays (name_in o), w
 
 -- a list, from where it began
 module _ {X : Type 0} (l : Listing X) (o : Origin X) (exp : Option (List ℕ)) where
-  abbrev Came : Told → List Event → X → LabState → List OpenSwap → Type 0
-  Came t own at lab to = Past l (ground_of o) t.trace o.start o.old.lab o.opens own at lab to
+  abbrev trace : Option (List Event)
+  trace = trace_in o.before.told
 
-  abbrev Sound : Told → List Event → Type 0
-  Sound t own = IsSound the_texts t.trace → IsSound the_texts (t.trace ++ own)
+  abbrev Came : List Event → X → LabState → List OpenSwap → Type 0
+  Came own at lab to = Past l (ground_of o) trace o.start o.old.lab o.opens own at lab to
+
+  abbrev Sound : List Event → List Event → Type 0
+  Sound own t = IsSound the_texts t → IsSound the_texts (t ++ own)
+
+  sound_in : (own : List Event) → IfSome o.before.told (λ w. Sound own w.trace) → IfSome trace (Sound own)
+  sound_in own h = in_trace o.before.told (Sound own) h
 
   -- NOTHING WAS DONE YET
   pub begins : WorksWith o.before o.old o.opens → blames_device (l.whole o.start) ≡ false → blames_now (l.whole o.start) ≡ false → HasComeTo l o exp o.before o.old o.start
@@ -70,7 +76,7 @@ module _ {X : Type 0} (l : Listing X) (o : Origin X) (exp : Option (List ℕ)) w
     to = o.opens;
     own = [];
     told = with_steps-nil o.before.told;
-    past = some_all o.before.told _ (λ t. none);
+    past = none;
     sound = some_all o.before.told _ (λ t sound. subst (λ trace. IsSound the_texts trace) (sym (append-nil t.trace)) sound);
     works = works;
     limit = refl;
@@ -89,8 +95,7 @@ module _ {X : Type 0} (l : Listing X) (o : Origin X) (exp : Option (List ℕ)) w
     obeys = (
       h.own,
       h.told,
-      if_both o.before.told (λ t. Came t h.own at new.lab h.to) (λ t. Sound t h.own) (λ t. StepsBy (AllDone l o) (AllWants l o) t.trace h.own new.lab h.to (Ok (l.whole at)))
-          (λ t past sound. record { ends = subst (λ b. AnswersBy (AllDone l o) t.trace h.own (l.whole at) new.lab h.to b) (sym goes) (over at new.lab h.to past over_here refl); sound = sound }) h.past h.sound,
+      record { ends = subst (λ b. AnswersBy (AllDone l o) trace h.own (l.whole at) new.lab h.to b) (sym goes) (over at new.lab h.to h.past over_here refl); sound = sound_in h.own h.sound },
     );
     works = λ _. h.works;
     limit = h.limit;
@@ -110,7 +115,7 @@ module _ {X : Type 0} (l : Listing X) (o : Origin X) (exp : Option (List ℕ)) w
     obeys = (
       h.own,
       h.told,
-      if_both o.before.told (λ t. Came t h.own at new.lab h.to) (λ t. Sound t h.own) (λ t. StepsBy (AllDone l o) (AllWants l o) t.trace h.own new.lab h.to (Err faults.Memory)) (λ t past sound. record { ends = (at, past); sound = sound }) h.past h.sound,
+      record { ends = (at, h.past); sound = sound_in h.own h.sound },
     );
     works = λ _. h.works;
     limit = h.limit;
@@ -134,17 +139,17 @@ module _ {X : Type 0} (l : Listing X) (o : Origin X) (exp : Option (List ℕ)) w
     abbrev start : Start
     start = start_of o.devices new h.to
 
-    abbrev Length : Told → Type 0
-    Length t = IsLengthAt (t.trace ++ h.own) (length_of new.journal)
+    length_there : IsLengthBehind trace h.own (limit_of o.old.journal) (length_of new.journal)
+    length_there = record {
+      told = in_trace o.before.told (λ t. IsLengthAt (t ++ h.own) (length_of new.journal)) (if_back o.before.told now.told h.own (λ t. IsLengthAt t (length_of new.journal)) h.told (works_length now new h.to h.works));
+      within = omega (arith, h.works.working.work.room.few, h.limit);
+    }
 
-    length_there : IfSome o.before.told Length
-    length_there = if_back o.before.told now.told h.own (λ trace. IsLengthAt trace (length_of new.journal)) h.told (works_length now new h.to h.works)
-
-    next : (t : Told) → Length t → (steps : List Event) (after : After) → IsDoneBy J start.set new.lab h.to steps after → DoesNext l (ground_of o) t.trace h.own at new.lab h.to steps after
-    next t length steps after done = record {
+    next : (steps : List Event) (after : After) → IsDoneBy J start.set new.lab h.to steps after → DoesNext l (ground_of o) trace h.own at new.lab h.to steps after
+    next steps after done = record {
       more = going;
       length = length_of new.journal;
-      length_is = length;
+      length_is = length_there;
       done = subst (λ (n : ℕ). let set : Setting = record { length = length_of new.journal; limit = n; devices = o.devices } in IsDoneBy (l.Judges at set new.lab h.to) set new.lab h.to steps after) h.limit done;
     }
 
@@ -155,22 +160,14 @@ module _ {X : Type 0} (l : Listing X) (o : Origin X) (exp : Option (List ℕ)) w
       told_on : then'.told ≡ with_steps o.before.told own
       told_on = b.obeys.1 ∙ ap (λ told. with_steps told b.obeys.0) h.told ∙ with_steps-append o.before.told h.own b.obeys.0
 
-      -- what is said of the next, over the trace before the list
-      abbrev Ends : Told → Type 0
-      Ends t = ObeySteps (t.trace ++ h.own) J start b.obeys.0 newer.lab b.to result
+      -- what is said of the next
+      abbrev Ends : Type 0
+      Ends = ObeyEnds (trace_in now.told) J start b.obeys.0 newer.lab b.to result
 
-      ends_there : IfSome o.before.told Ends
-      ends_there = if_back o.before.told now.told h.own (λ trace. ObeySteps trace J start b.obeys.0 newer.lab b.to result) h.told b.obeys.2
-
-      -- all of them together
-      each : (Q : Told → Type 0) → ((t : Told) → Came t h.own at new.lab h.to → Sound t h.own → Length t → Ends t → Q t) → IfSome o.before.told Q
-      each Q f =
-          if_both o.before.told (λ t. Came t h.own at new.lab h.to × Sound t h.own) (λ t. Length t × Ends t) Q (λ t first second. f t first.0 first.1 second.0 second.1)
-          (if_both o.before.told (λ t. Came t h.own at new.lab h.to) (λ t. Sound t h.own) (λ t. Came t h.own at new.lab h.to × Sound t h.own) (λ t past sound. (past, sound)) h.past h.sound)
-          (if_both o.before.told Length Ends (λ t. Length t × Ends t) (λ t length ends. (length, ends)) length_there ends_there)
-
-      sound_on : IfSome o.before.told (λ t. Sound t own)
-      sound_on = if_both o.before.told (λ t. Sound t h.own) Ends (λ t. Sound t own) (λ t sound ends first. subst (λ trace. IsSound the_texts trace) (append_assoc t.trace h.own b.obeys.0) (ends.sound (sound first))) h.sound ends_there
+      sound_on : IfSome trace (Sound own)
+      sound_on =
+          if_both trace (Sound h.own) (λ t. Sound b.obeys.0 (t ++ h.own)) (Sound own) (λ t sound then first. subst (λ t. IsSound the_texts t) (append_assoc t h.own b.obeys.0) (then (sound first))) (sound_in h.own h.sound)
+          (trace_back o.before.told now.told h.own (Sound b.obeys.0) h.told b.obeys.2.sound)
 
       limit_on : limit_of newer.journal ≡ limit_of o.old.journal
       limit_on = b.limit ∙ h.limit
@@ -178,8 +175,8 @@ module _ {X : Type 0} (l : Listing X) (o : Origin X) (exp : Option (List ℕ)) w
       opened_now : ((name : List ℕ) → reply_of result ≡ Some (replies.More name) → ⊥) → WereOpen o.opens b.to
       opened_now plain = opened_on o.opens h.to b.to h.opened (none_opened named (reply_of result) h.to b.to o.devices plain b.opened)
 
-      -- the whole, by how it ends over each trace
-      leaves_all : (answer : Result Reply CoreFault) → ((name : List ℕ) → ends_swap (reply_of answer) name ≡ false) → ((name : List ℕ) → reply_of result ≡ Some (replies.More name) → ⊥) → ((t : Told) → Came t h.own at new.lab h.to → Sound t h.own → Length t → Ends t → EndsBy (AllDone l o) (AllWants l o) t.trace own newer.lab b.to answer) → (stays_at_work answer ≡ true → WorksWith then' newer b.to)
+      -- the whole, by how it ends
+      leaves_all : (answer : Result Reply CoreFault) → ((name : List ℕ) → ends_swap (reply_of answer) name ≡ false) → ((name : List ℕ) → reply_of result ≡ Some (replies.More name) → ⊥) → EndsBy (AllDone l o) (AllWants l o) trace own newer.lab b.to answer → (stays_at_work answer ≡ true → WorksWith then' newer b.to)
           → IfOk answer (λ reply. closes reply ≡ true → Rose o.before.faults.disk then'.faults.disk) → IfOk answer (λ reply. blames_device reply ≡ true → Rose (counted_from o.opens exp o.devices) then'.faults.devices)
           → IfOk answer (λ reply. blames_now reply ≡ true → Rose o.before.faults.devices then'.faults.devices) → (o.before.stopped ≡ false → IsErrOf answer faults.Stopped ↔ IsTrue then'.stopped) → Obeys (AllDone l o) (AllWants l o) o.devices o.before then' o.old newer o.opens exp answer
       leaves_all answer calm plain ends works down device here stops = record {
@@ -187,8 +184,7 @@ module _ {X : Type 0} (l : Listing X) (o : Origin X) (exp : Option (List ℕ)) w
         obeys = (
           own,
           told_on,
-          if_both o.before.told (λ t. EndsBy (AllDone l o) (AllWants l o) t.trace own newer.lab b.to answer) (λ t. Sound t own) (λ t. StepsBy (AllDone l o) (AllWants l o) t.trace own newer.lab b.to answer) (λ t e s. record { ends = e; sound = s })
-              (each (λ t. EndsBy (AllDone l o) (AllWants l o) t.trace own newer.lab b.to answer) ends) sound_on,
+          record { ends = ends; sound = sound_on },
         );
         works = works;
         limit = limit_on;
@@ -202,19 +198,22 @@ module _ {X : Type 0} (l : Listing X) (o : Origin X) (exp : Option (List ℕ)) w
       }
 
       -- it is closed by this one
-      shuts_all : (t : Told) → Came t h.own at new.lab h.to → Sound t h.own → Length t → (reply : Reply) (behind : List ℕ → List ℕ → List Event) (answer : Reply) → last_reply l at (Some reply) ≡ Some answer
-          → Leaves (t.trace ++ h.own) J start b.obeys.0 reply behind → Shuts (AllDone l o) t.trace own answer behind
-      shuts_all t past sound length reply behind answer is leaves = record {
+      abbrev Before : Reply → (List ℕ → List ℕ → List Event) → List Event → Type 0
+      Before reply behind t = IsSound the_texts t → AllShut (done_as J start) (trace_in now.told) b.obeys.0 reply behind t
+
+      shuts_all : (reply : Reply) (behind : List ℕ → List ℕ → List Event) (answer : Reply) → last_reply l at (Some reply) ≡ Some answer → Leaves (trace_in now.told) J start b.obeys.0 reply behind → Shuts (AllDone l o) trace own answer behind
+      shuts_all reply behind answer is leaves = record {
         lab = leaves.lab;
         done = λ a c. whole leaves.lab a c (leaves.done a c);
-        images = λ first a c possible.
-            let i = leaves.images (sound first) a c (subst (λ trace. ArePossible trace a c) (sym (append_assoc t.trace h.own b.obeys.0)) possible) in
-            (i.0, i.1, whole i.0 a c i.2);
+        images =
+            if_both trace (Sound h.own) (λ t. Before reply behind (t ++ h.own)) (λ t. IsSound the_texts t → AllShut (AllDone l o) trace own answer behind t)
+            (λ t sound images first a c possible. let i = images (sound first) a c (subst (λ t. ArePossible t a c) (sym (append_assoc t h.own b.obeys.0)) possible) in (i.0, i.1, whole i.0 a c i.2)) (sound_in h.own h.sound)
+            (trace_back o.before.told now.told h.own (Before reply behind) h.told leaves.images);
       }
         where
-          whole : (lab : LabState) (a c : List ℕ) → IsDone J start (b.obeys.0 ++ behind a c) (Some reply) lab Closed → (AllDone l o) t.trace (own ++ behind a c) (shut_by (Some answer) lab)
+          whole : (lab : LabState) (a c : List ℕ) → IsDone J start (b.obeys.0 ++ behind a c) (Some reply) lab Closed → (AllDone l o) trace (own ++ behind a c) (shut_by (Some answer) lab)
           whole lab a c done =
-              broken h.own (b.obeys.0 ++ behind a c) at new.lab h.to (Some reply) lab (append_assoc h.own b.obeys.0 (behind a c)) past (next t length (b.obeys.0 ++ behind a c) (shut_by (Some reply) lab) done)
+              broken h.own (b.obeys.0 ++ behind a c) at new.lab h.to (Some reply) lab (append_assoc h.own b.obeys.0 (behind a c)) h.past (next (b.obeys.0 ++ behind a c) (shut_by (Some reply) lab) done)
               (ap (λ r. shut_by r lab) (sym is))
 
     -- THE PLANT RUNS ON behind a reply
@@ -232,9 +231,8 @@ module _ {X : Type 0} (l : Listing X) (o : Origin X) (exp : Option (List ℕ)) w
       to = b.to;
       own = own (Ok reply) b;
       told = told_on (Ok reply) b;
-      past = each (Ok reply) b (λ t. Came t (own (Ok reply) b) (l.behind at reply) newer.lab b.to)
-          (λ t past sound length ends. more h.own at new.lab h.to past b.obeys.0 reply newer.lab b.to (next t length b.obeys.0 (open_by reply newer.lab b.to) (subst (λ x. Answers (t.trace ++ h.own) J start b.obeys.0 reply newer.lab b.to x) goes ends.ends)));
-      sound = sound_on (Ok reply) b;
+      past = more h.own at new.lab h.to h.past b.obeys.0 reply newer.lab b.to (next b.obeys.0 (open_by reply newer.lab b.to) (subst (λ x. Answers (trace_in now.told) J start b.obeys.0 reply newer.lab b.to x) goes b.obeys.2.ends));
+      sound = of_trace o.before.told (Sound (own (Ok reply) b)) (sound_on (Ok reply) b);
       works = b.works (ap not goes);
       limit = limit_on (Ok reply) b;
       opened = opened_now (Ok reply) b (λ name is. plain name (same_Some reply (replies.More name) is));
@@ -260,8 +258,8 @@ module _ {X : Type 0} (l : Listing X) (o : Origin X) (exp : Option (List ℕ)) w
         let answer : Reply = l.whole (l.behind at reply) in
         let shut_too : closes answer ≡ true = tells.shuts at reply shut in
         leaves_all (Ok reply) b (Ok answer) (λ name. shut_ends answer name shut_too) (λ name is. shut_is_none reply shut name (same_Some reply (replies.More name) is))
-        (λ t past sound length ends. subst (λ x. AnswersBy (AllDone l o) t.trace (own (Ok reply) b) answer newer.lab b.to x) (sym shut_too)
-        (shuts_all (Ok reply) b t past sound length reply (λ a c. []) answer (last_is reply shut) (subst (λ x. Answers (t.trace ++ h.own) J start b.obeys.0 reply newer.lab b.to x) shut ends.ends)))
+        (subst (λ x. AnswersBy (AllDone l o) trace (own (Ok reply) b) answer newer.lab b.to x) (sym shut_too)
+        (shuts_all (Ok reply) b reply (λ a c. []) answer (last_is reply shut) (subst (λ x. Answers (trace_in now.told) J start b.obeys.0 reply newer.lab b.to x) shut b.obeys.2.ends)))
         (λ going_on. let both : false ≡ true = sym (ap not shut_too) ∙ going_on in absurd (cc both)) (λ is. Rose_since o.before.faults.disk now.faults.disk then'.faults.disk h.disk (b.down shut))
         (λ blaming. elim (tells.blames at reply blaming) [ inl before ↦ rose_on (counted_from o.opens exp o.devices) now.faults.devices then'.faults.devices (h.device before) b.still | inr this ↦ blames this ])
         (λ blaming. elim (tells.here at reply blaming) [ inl before ↦ rose_on o.before.faults.devices now.faults.devices then'.faults.devices (h.here before) b.still | inr this ↦ Rose_since o.before.faults.devices now.faults.devices then'.faults.devices h.devices (blames_here this) ])
@@ -270,16 +268,16 @@ module _ {X : Type 0} (l : Listing X) (o : Origin X) (exp : Option (List ℕ)) w
     -- THE PLANT STOPPED in it
     pub comes_to_stop : (b : Sub (Err faults.Stopped)) → Obeys (AllDone l o) (AllWants l o) o.devices o.before then' o.old newer o.opens exp (Err faults.Stopped)
     comes_to_stop b =
-        leaves_all (Err faults.Stopped) b (Err faults.Stopped) (λ name. refl) (λ name is. absurd (cc is)) (λ t past sound length ends. shuts_all (Err faults.Stopped) b t past sound length replies.Stopped (λ a c. Restarted a c ∷ []) replies.Stopped refl ends.ends)
+        leaves_all (Err faults.Stopped) b (Err faults.Stopped) (λ name. refl) (λ name is. absurd (cc is)) (shuts_all (Err faults.Stopped) b replies.Stopped (λ a c. Restarted a c ∷ []) replies.Stopped refl b.obeys.2.ends)
         (λ going_on. absurd (cc going_on)) tt tt tt (λ ran. b.stopped (h.runs ran))
 
     -- MEMORY WAS WANTING in it, which is undone
     pub comes_to_want : (J (Ok Recover) → ⊥) → (b : Sub (Err faults.Memory)) → Obeys (AllDone l o) (AllWants l o) o.devices o.before then' o.old newer o.opens exp (Err faults.Memory)
     comes_to_want no_recover b =
-        leaves_all (Err faults.Memory) b (Err faults.Memory) (λ name. refl) (λ name is. absurd (cc is)) (λ t past sound length ends. (at, stays t past ends.ends)) (λ going_on. b.works going_on) tt tt tt (λ ran. b.stopped (h.runs ran))
+        leaves_all (Err faults.Memory) b (Err faults.Memory) (λ name. refl) (λ name is. absurd (cc is)) (at, stays b.obeys.2.ends) (λ going_on. b.works going_on) tt tt tt (λ ran. b.stopped (h.runs ran))
       where
-        stays : (t : Told) → Came t h.own at new.lab h.to → WantsIn J start b.obeys.0 newer.lab b.to → Came t (own (Err faults.Memory) b) at newer.lab b.to
-        stays t past (undone nothing lab_is to_is) =
-            subst (λ (w : List Event × LabState × List OpenSwap). Came t w.0 at w.1 w.2)
-            (let steps : own (Err faults.Memory) b ≡ h.own = ap (λ l. h.own ++ l) nothing ∙ append-nil h.own in let all : (h.own, new.lab, h.to) ≡ (own (Err faults.Memory) b, newer.lab, b.to) = cc (steps, lab_is, to_is) in all) past
-        stays t past (recovering judged first to_is) = absurd (no_recover judged)
+        stays : WantsIn J start b.obeys.0 newer.lab b.to → Came (own (Err faults.Memory) b) at newer.lab b.to
+        stays (undone nothing lab_is to_is) =
+            subst (λ (w : List Event × LabState × List OpenSwap). Came w.0 at w.1 w.2)
+            (let steps : own (Err faults.Memory) b ≡ h.own = ap (λ l. h.own ++ l) nothing ∙ append-nil h.own in let all : (h.own, new.lab, h.to) ≡ (own (Err faults.Memory) b, newer.lab, b.to) = cc (steps, lab_is, to_is) in all) h.past
+        stays (recovering judged first to_is) = absurd (no_recover judged)

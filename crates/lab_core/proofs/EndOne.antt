@@ -18,13 +18,14 @@ use Rattle.lab_core.specs.Breaks.{StartsBehind}
 use Rattle.lab_core.specs.Controller.{Control, WorksWith}
 use Rattle.lab_judge.specs.Judge.{Finish, Is}
 use Rattle.lab_core.specs.LabSteps.{IsOneOf, does, end_reply, end_session, is_told, turn_reply}
-use Rattle.lab_core.specs.Obey.{start_of, IsDone, Obeyed}
+use Rattle.lab_core.specs.Obey.{start_of, Obeyed}
 use Rattle.lab_core.specs.Sessions.{OpenSwap, Session, IsSince}
 use Rattle.lab_core.specs.Swapping.{HasEndedIn, progress_answer}
 use Rattle.lab_core.proofs.OpenSwaps.{Pair, Place, open_without, risen_by}
 use Rattle.lab_core.proofs.PerformSwap.{IsCausedNow, IsCausedSince, Leads, by_outcome}
 use Rattle.lab_core.proofs.Told.{Halts, IsAnswer, answered, halts_as, onward_plain}
 use Rattle.lab_core.proofs.TurnOne.{apart, at, counted, end_caused, moves, one, plain, since, works_with}
+use Rattle.lab_core.proofs.Obey.{IsDone}
 
 -- what is told of a swap that is over
 pub over_reply : (p : SwapOf) (outcome : Outcome) (reply : Reply) → IsOver outcome → turn_reply p outcome ≡ Some reply → end_reply p outcome ≡ Some reply

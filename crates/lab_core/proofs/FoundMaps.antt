@@ -1,11 +1,11 @@
 -- A mapping that a search may answer is shaped for the lab and its wiring.
 use Rattle.std.specs.List.{filter_map, cons_option}
-use Rattle.std.proofs.Common.{◌≡◌, ◌⊎◌, inl, inr, ℕ, zero, suc, List, [], ◌∷◌, ◌++◌, append_assoc, length, map, get_or, Contains, Option, Some, None, Ok, refl, sym, ◌∙◌, ap, subst, length-append, arith}
+use Rattle.std.proofs.Common.{◌≡◌, ◌⊎◌, inl, inr, ℕ, List, [], ◌∷◌, ◌++◌, append_assoc, length, map, get_or, Contains, Option, Some, None, Ok, refl, sym, ◌∙◌, ap, subst, length-append, arith}
 use Rattle.std.proofs.lemmas.Bool.{cases_lt}
 use Rattle.std.proofs.lemmas.List.{append-nil, get_or_append_left}
 use Rattle.std.proofs.Math.Seq.{get_or-append_seam}
 use Rattle.lab_base.specs.Lists.{Has}
-use Rattle.lab_base.proofs.Members.{Has-map, Has-flat_map, Has-slice_get}
+use Rattle.lab_base.proofs.Members.{Has-map, Has-flat_map, Has-place, Has-slice_get}
 use Rattle.virt_topo.specs.declared.mapping.Mapping.{Mapping}
 use Rattle.virt_topo.specs.Soundness.{IsSound}
 use Rattle.lab_model.specs.Shapes.{IsShaped, Place}
@@ -30,11 +30,6 @@ has_changed h (x ∷ xs) y has = elim (has_option (h x) (filter_map h xs) y has)
   | inl here ↦ (x, inl refl, here)
   | inr there ↦ let r = has_changed h xs y there in (r.0, inr r.1, r.2)
 ]
-
-contains : {X : Type 0} (xs : List X) (x : X) → Has xs x → Contains xs x
-contains [] x has = absurd has
-contains (y ∷ xs) x (inl same) = (zero, omega arith, same)
-contains (y ∷ xs) x (inr has) = let r = contains xs x has in (suc r.0, omega (arith, r.1), r.2)
 
 -- ONE CANDIDATE MORE
 choice_more : (cs : List (List Place)) (places c : List Place) (p : Place) → IsChoice cs places → Contains c p → IsChoice (cs ++ c ∷ []) (places ++ p ∷ [])
@@ -63,7 +58,7 @@ each_choice (c ∷ todo) past maps are places has =
     (λ m there.
     let x = Has-flat_map (λ q. map (λ p. q ++ p ∷ []) c) maps m there in
     let y = Has-map (λ p. x.0 ++ p ∷ []) c m x.2 in
-    subst (λ l. IsChoice (past ++ c ∷ []) l) y.2 (choice_more past x.0 c y.0 (are x.0 x.1) (contains c y.0 y.1)))
+    subst (λ l. IsChoice (past ++ c ∷ []) l) y.2 (choice_more past x.0 c y.0 (are x.0 x.1) (Has-place c y.0 y.0 y.1)))
     places has)
 
 none_yet : (m : List Place) → Has ([] ∷ []) m → IsChoice [] m

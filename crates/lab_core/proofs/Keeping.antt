@@ -11,7 +11,7 @@ use Rattle.lab_core.specs.Sessions.{OpenSwap, After, open_by, shut_by}
 use Rattle.lab_core.specs.Lists.{DoesNext, Ground, Listing, Lists, Past, broken, last_reply, more, none, over, wanting}
 use Rattle.lab_core.proofs.OuterSteps.{Tells, restarts, still, still_as, tell_behind, tells_step}
 
-module _ {X : Type 0} (l : Listing X) (ground : Ground) (trace : List Event) where
+module _ {X : Type 0} (l : Listing X) (ground : Ground) (trace : Option (List Event)) where
   -- WHAT HOLDS OF THE PLACES, from one to the next
   module _ (Holds : X → Type 0) (on : (at : X) (reply : Reply) → Holds at → Holds (l.behind at reply)) where
     pub past_holds : (start : X) (s : LabState) (opens : List OpenSwap) (own : List Event) (at : X) (lab : LabState) (to : List OpenSwap) → Holds start → Past l ground trace start s opens own at lab to → Holds at

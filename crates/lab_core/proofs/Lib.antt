@@ -49,6 +49,7 @@ pub mod Said
 pub mod SameSwaps
 pub mod SolutionLaws
 pub mod StepLaws
+pub mod StopsShut
 pub mod TurnLaws
 pub mod Wanting
 pub mod Sessions

@@ -4,6 +4,8 @@ use Rattle.lab_base.proofs.Tests.{some_weaker}
 use Rattle.plant.specs.Events.{Event}
 use Rattle.plant.specs.Seen.{Seen}
 use Rattle.records_model.specs.Labs.{LabState}
+use Rattle.records_model.specs.Works.{IsSound}
+use Rattle.lab_state.specs.Texts.{the_texts}
 use Rattle.script_text.specs.Replies.{closes}
 use Rattle.script_text.specs.declared.reply.Reply.{Reply}
 use Rattle.lab_core.specs.declared.fault.CoreFault.{CoreFault}
@@ -14,25 +16,26 @@ use Rattle.lab_core.specs.Controller.{Control, WorksWith}
 use Rattle.lab_judge.specs.Judge.{Is, Recover, Task}
 use Rattle.lab_core.specs.LabSteps.{Does, does, no_memory}
 use Rattle.lab_core.specs.Lists.{DoesList, Listing, WantsInList, listed, refused as list_refusal, no_memory as list_no_memory, undone as list_undone, between as list_between}
-use Rattle.lab_core.specs.Obey.{AnswersBy, Doing, EndsBy, Obeys, Shuts, StepsBy, Wanting, between, done_as, start_of, undone, wants_as}
+use Rattle.lab_core.specs.Moments.{trace_in}
+use Rattle.lab_core.specs.Obey.{AllShut, AnswersBy, Doing, EndsBy, Obeys, Shuts, Wanting, between, done_as, start_of, undone, wants_as}
 use Rattle.lab_core.specs.Sessions.{OpenSwap, After}
 use Rattle.lab_judge.specs.Tasks.{IsMild}
 use Rattle.lab_core.proofs.Obey.{refuses, wanted}
 
 -- ---- WHAT WAS DONE, in other words
-module _ (A B : Doing) (V W : Wanting) (each : (trace own : List Event) (after : After) → A trace own after → B trace own after) (wants : (trace own : List Event) (lab : LabState) (to : List OpenSwap) → V trace own lab to → W trace own lab to) where
-  shuts_as : (trace own : List Event) (reply : Reply) (behind : List ℕ → List ℕ → List Event) → Shuts A trace own reply behind → Shuts B trace own reply behind
+module _ (A B : Doing) (V W : Wanting) (each : (trace : Option (List Event)) (own : List Event) (after : After) → A trace own after → B trace own after) (wants : (trace : Option (List Event)) (own : List Event) (lab : LabState) (to : List OpenSwap) → V trace own lab to → W trace own lab to) where
+  shuts_as : (trace : Option (List Event)) (own : List Event) (reply : Reply) (behind : List ℕ → List ℕ → List Event) → Shuts A trace own reply behind → Shuts B trace own reply behind
   shuts_as trace own reply behind h = record {
     lab = h.lab;
     done = λ a b. each trace _ _ (h.done a b);
-    images = λ sound a b possible. let i = h.images sound a b possible in (i.0, i.1, each trace _ _ i.2);
+    images = some_weaker trace (λ t. IsSound the_texts t → AllShut A trace own reply behind t) (λ t. IsSound the_texts t → AllShut B trace own reply behind t) (λ t images sound a b possible. let i = images sound a b possible in (i.0, i.1, each trace _ _ i.2)) h.images;
   }
 
-  answers_as : (trace own : List Event) (reply : Reply) (lab : LabState) (to : List OpenSwap) (closing : Bool) → AnswersBy A trace own reply lab to closing → AnswersBy B trace own reply lab to closing
+  answers_as : (trace : Option (List Event)) (own : List Event) (reply : Reply) (lab : LabState) (to : List OpenSwap) (closing : Bool) → AnswersBy A trace own reply lab to closing → AnswersBy B trace own reply lab to closing
   answers_as trace own reply lab to false h = each trace own _ h
   answers_as trace own reply lab to true h = shuts_as trace own reply _ h
 
-  ends_as : (trace own : List Event) (lab : LabState) (to : List OpenSwap) (result : Result Reply CoreFault) → EndsBy A V trace own lab to result → EndsBy B W trace own lab to result
+  ends_as : (trace : Option (List Event)) (own : List Event) (lab : LabState) (to : List OpenSwap) (result : Result Reply CoreFault) → EndsBy A V trace own lab to result → EndsBy B W trace own lab to result
   ends_as trace own lab to (Ok reply) h = answers_as trace own reply lab to (closes reply) h
   ends_as trace own lab to (Err faults.Stopped) h = shuts_as trace own _ _ h
   ends_as trace own lab to (Err faults.Memory) h = wants trace own lab to h
@@ -43,7 +46,7 @@ module _ (A B : Doing) (V W : Wanting) (each : (trace own : List Event) (after :
     obeys = (
       h.obeys.0,
       h.obeys.1,
-      some_weaker before.told (λ t. StepsBy A V t.trace h.obeys.0 new.lab h.to result) (λ t. StepsBy B W t.trace h.obeys.0 new.lab h.to result) (λ t s. record { ends = ends_as t.trace h.obeys.0 new.lab h.to result s.ends; sound = s.sound }) h.obeys.2,
+      record { ends = ends_as (trace_in before.told) h.obeys.0 new.lab h.to result h.obeys.2.ends; sound = h.obeys.2.sound },
     );
     works = h.works;
     limit = h.limit;
@@ -73,11 +76,11 @@ module _ {X : Type 0} (l : Listing X) (JudgedList : Result X Reply → Type 0) (
 
   module _ (before : Seen) (works : WorksWith before c opens) where
     -- it was refused
-    refusal_done : (reply : Reply) → JudgedList (Err reply) → (trace own : List Event) (after : After) → done_as (Is (Err reply)) (start_of devices c opens) trace own after → Done trace own after
+    refusal_done : (reply : Reply) → JudgedList (Err reply) → (trace : Option (List Event)) (own : List Event) (after : After) → done_as (Is (Err reply)) (start_of devices c opens) trace own after → Done trace own after
     refusal_done reply judged trace own after (does j is done) = list_refusal reply judged (subst (λ (j : Result Task Reply). Does (start_of devices c opens).set c.lab opens j own after) is done)
     refusal_done reply judged trace own after (no_memory wants) = list_no_memory wants
 
-    none_wants : (IsJudged : Result Task Reply → Type 0) → (IsJudged (Ok Recover) → ⊥) → (trace own : List Event) (lab : LabState) (new : List OpenSwap) → wants_as IsJudged (start_of devices c opens) trace own lab new → Wants trace own lab new
+    none_wants : (IsJudged : Result Task Reply → Type 0) → (IsJudged (Ok Recover) → ⊥) → (trace : Option (List Event)) (own : List Event) (lab : LabState) (new : List OpenSwap) → wants_as IsJudged (start_of devices c opens) trace own lab new → Wants trace own lab new
     none_wants IsJudged no' trace own lab new (undone nothing lab_is to_is) = list_undone nothing lab_is to_is
     none_wants IsJudged no' trace own lab new (between judged settles to_is) = absurd (no' judged)
 
@@ -91,7 +94,7 @@ module _ {X : Type 0} (l : Listing X) (JudgedList : Result X Reply → Type 0) (
     abbrev Nothing : Result Task Reply → Type 0
     Nothing j = ⊥
 
-    nothing_done : (trace own : List Event) (after : After) → done_as Nothing (start_of devices c opens) trace own after → Done trace own after
+    nothing_done : (trace : Option (List Event)) (own : List Event) (after : After) → done_as Nothing (start_of devices c opens) trace own after → Done trace own after
     nothing_done trace own after (does j is done) = absurd is
     nothing_done trace own after (no_memory wants) = list_no_memory wants
 

@@ -47,9 +47,10 @@ use Rattle.lab_core.proofs.OpenMoves.{moves_on, set_by, step_moves}
 use Rattle.lab_core.proofs.Places.{breaks_place, no_place, place_as, step_place}
 use Rattle.lab_core.proofs.StepLaws.{begins_stay, broke, by_one, drills_leave, step_stays, step_stops, was}
 use Rattle.lab_core.proofs.Sessions.{not_shut}
+use Rattle.lab_core.specs.Moments.{with_more}
 
 -- one that is none is done by one judgement
-pub plain_step : (terms : Terms) (at : List Event) (set : Setting) (s : LabState) (session : Session) (command : Command) (opening own : List Event) (after : After) → is_unjudged command ≡ false → LabStep terms at set s session command opening own after
+pub plain_step : (terms : Terms) (at : Option (List Event)) (set : Setting) (s : LabState) (session : Session) (command : Command) (opening own : List Event) (after : After) → is_unjudged command ≡ false → LabStep terms at set s session command opening own after
     → StepOf (drill_of command) (DoesBy (JudgedBeside terms.rule command) set) terms s session opening own after
 plain_step terms at set s session (commands.Play exp from to lines text) opening own after no' step = absurd (cc no')
 plain_step terms at set s session (commands.Batch moment lines text) opening own after no' step = absurd (cc no')
@@ -67,7 +68,7 @@ pub record TellsOfWhole {X : Type 0} (l : Listing X) (JudgedList : Result X Repl
   pub drillless : (at : X) → is_of_drill (l.whole at) ≡ false
 
 -- OF A LIST, whose places hold that, about these experiments
-module _ {X : Type 0} (l : Listing X) (JudgedList : Result X Reply → Type 0) (tells : TellsOfWhole l JudgedList) (base : Ground) (trace : List Event) (s : LabState) (opens : List OpenSwap) (own : List Event) (after : After) where
+module _ {X : Type 0} (l : Listing X) (JudgedList : Result X Reply → Type 0) (tells : TellsOfWhole l JudgedList) (base : Ground) (trace : Option (List Event)) (s : LabState) (opens : List OpenSwap) (own : List Event) (after : After) where
   abbrev Done : Type 0
   Done = DoesList l JudgedList base trace s opens own after
 
@@ -147,52 +148,52 @@ pub record ListLaws {X : Type 0} (l : Listing X) (Judged : List OpenSwap → Lab
   pub about_these : IsAboutThese l Holds about
   pub starts : (opens : List OpenSwap) (s : LabState) (start : X) → Judged opens s (Ok start) → Holds start
 
-module _ {X : Type 0} (l : Listing X) (Judged : List OpenSwap → LabState → Result X Reply → Type 0) (about : List ℕ → Bool) (laws : ListLaws l Judged about) (terms : Terms) (at : List Event) (set : Setting) (s : LabState) (opening own : List Event) (after : After) where
+module _ {X : Type 0} (l : Listing X) (Judged : List OpenSwap → LabState → Result X Reply → Type 0) (about : List ℕ → Bool) (laws : ListLaws l Judged about) (terms : Terms) (at : Option (List Event)) (set : Setting) (s : LabState) (opening own : List Event) (after : After) where
   abbrev Does : List OpenSwap → LabState → List Event → After → Type 0
-  Does opens s own after = DoesList l (Judged opens s) (ground_by set) (at ++ opening) s opens own after
+  Does opens s own after = DoesList l (Judged opens s) (ground_by set) (with_more at opening) s opens own after
 
   abbrev Step : Session → Type 0
   Step session = StepOf None Does terms s session opening own after
 
   list_stops : (session : Session) (reply : Reply) → after.reply ≡ Some reply → Step session → Tells (opening ++ own) reply
   list_stops Closed reply is (opened mid opens done) =
-      tell_behind opening own reply opens.no_outer (done_stop l (Judged [] mid) (laws.tells [] mid) (ground_by set) (at ++ opening) mid [] own after laws.Holds about laws.about_these (laws.starts [] mid) reply is done)
+      tell_behind opening own reply opens.no_outer (done_stop l (Judged [] mid) (laws.tells [] mid) (ground_by set) (with_more at opening) mid [] own after laws.Holds about laws.about_these (laws.starts [] mid) reply is done)
   list_stops Closed reply is (not_opened breaks) = step_stops own after reply is None (Err replies.NoLab) terms set s Closed commands.Status opening (broke refl refl breaks)
   list_stops (Open opens) reply is (none, done) =
-      tell_behind opening own reply (ap has_outer none) (done_stop l (Judged opens s) (laws.tells opens s) (ground_by set) (at ++ opening) s opens own after laws.Holds about laws.about_these (laws.starts opens s) reply is done)
+      tell_behind opening own reply (ap has_outer none) (done_stop l (Judged opens s) (laws.tells opens s) (ground_by set) (with_more at opening) s opens own after laws.Holds about laws.about_these (laws.starts opens s) reply is done)
 
   list_stays : (session : Session) (name : List ℕ) → is_some s.lab ≡ true → about name ≡ false → (session ≡ Closed → IsAtRest s name) → Step session → Stays name s after.lab
   list_stays Closed name there apart rests (opened mid opens done) =
       let first = begins_stay name own after s there Closed commands.Status (λ is. rests refl) opening Closed (λ is. rests refl) mid [] (record { no_drill = refl; at = opens; quiet = opens.no_outer; are = refl }) in
-      both_stay name s mid after.lab first (done_stay l (Judged [] mid) (laws.tells [] mid) (ground_by set) (at ++ opening) mid [] own after laws.Holds about laws.about_these (laws.starts [] mid) name apart first.set done)
+      both_stay name s mid after.lab first (done_stay l (Judged [] mid) (laws.tells [] mid) (ground_by set) (with_more at opening) mid [] own after laws.Holds about laws.about_these (laws.starts [] mid) name apart first.set done)
   list_stays Closed name there apart rests (not_opened breaks) =
       step_stays name own after s there Closed commands.Status (λ is. rests refl) opening (Err replies.NoLab) terms set (λ is. let none : ◌≡◌ {A = Option (List ℕ)} None (Some name) = is in cc none) (broke refl refl breaks)
-  list_stays (Open opens) name there apart rests (none, done) = done_stay l (Judged opens s) (laws.tells opens s) (ground_by set) (at ++ opening) s opens own after laws.Holds about laws.about_these (laws.starts opens s) name apart there done
+  list_stays (Open opens) name there apart rests (none, done) = done_stay l (Judged opens s) (laws.tells opens s) (ground_by set) (with_more at opening) s opens own after laws.Holds about laws.about_these (laws.starts opens s) name apart there done
 
   list_opens : (session : Session) (now : List OpenSwap) → after.session ≡ Open now → Step session → now ≡ opens_of session
-  list_opens Closed now is (opened mid opens done) = done_open l (Judged [] mid) (laws.tells [] mid) (ground_by set) (at ++ opening) mid [] own after laws.Holds about laws.about_these (laws.starts [] mid) now is done
+  list_opens Closed now is (opened mid opens done) = done_open l (Judged [] mid) (laws.tells [] mid) (ground_by set) (with_more at opening) mid [] own after laws.Holds about laws.about_these (laws.starts [] mid) now is done
   list_opens Closed now is (not_opened breaks) = not_shut now (sym breaks.session ∙ is)
-  list_opens (Open opens) now is (none, done) = done_open l (Judged opens s) (laws.tells opens s) (ground_by set) (at ++ opening) s opens own after laws.Holds about laws.about_these (laws.starts opens s) now is done
+  list_opens (Open opens) now is (none, done) = done_open l (Judged opens s) (laws.tells opens s) (ground_by set) (with_more at opening) s opens own after laws.Holds about laws.about_these (laws.starts opens s) now is done
 
   list_moves : (session : Session) → (s.lab ≡ None → s.experiments ≡ []) → AllMove (opens_of session) s → (now : List OpenSwap) → after.session ≡ Open now → Step session → AllMove now after.lab
   list_moves Closed empty all now is step = λ o there. absurd (subst (λ l. Has l o) (list_opens Closed now is step) there)
-  list_moves (Open opens) empty all now is (none, done) = done_move l (Judged opens s) (laws.tells opens s) (ground_by set) (at ++ opening) s opens own after laws.Holds about laws.about_these (laws.starts opens s) (λ o there. empty) all now is done
+  list_moves (Open opens) empty all now is (none, done) = done_move l (Judged opens s) (laws.tells opens s) (ground_by set) (with_more at opening) s opens own after laws.Holds about laws.about_these (laws.starts opens s) (λ o there. empty) all now is done
 
   list_place : (session : Session) (reply : Reply) → after.reply ≡ Some reply → Step session → TellsPlace reply after.lab
-  list_place Closed reply is (opened mid opens done) = done_place l (Judged [] mid) (laws.tells [] mid) (ground_by set) (at ++ opening) mid [] own after reply is done
+  list_place Closed reply is (opened mid opens done) = done_place l (Judged [] mid) (laws.tells [] mid) (ground_by set) (with_more at opening) mid [] own after reply is done
   list_place Closed reply is (not_opened breaks) = breaks_place own after reply is opening breaks.breaks
-  list_place (Open opens) reply is (none, done) = done_place l (Judged opens s) (laws.tells opens s) (ground_by set) (at ++ opening) s opens own after reply is done
+  list_place (Open opens) reply is (none, done) = done_place l (Judged opens s) (laws.tells opens s) (ground_by set) (with_more at opening) s opens own after reply is done
 
   list_busy : (opens : List OpenSwap) (name : List ℕ) → is_some s.lab ≡ true → is_busy (names_of opens) name ≡ true → Step (Open opens) → Stays name s after.lab
-  list_busy opens name there busy (none, done) = done_busy l (Judged opens s) (laws.tells opens s) (ground_by set) (at ++ opening) s opens own after laws.Holds about laws.about_these (laws.starts opens s) name there busy done
+  list_busy opens name there busy (none, done) = done_busy l (Judged opens s) (laws.tells opens s) (ground_by set) (with_more at opening) s opens own after laws.Holds about laws.about_these (laws.starts opens s) name there busy done
 
   list_no_drill : (session : Session) → Step session → of_drill_if after.reply ≡ false
-  list_no_drill Closed (opened mid opens done) = done_no_drill l (Judged [] mid) (laws.tells [] mid) (ground_by set) (at ++ opening) mid [] own after done
+  list_no_drill Closed (opened mid opens done) = done_no_drill l (Judged [] mid) (laws.tells [] mid) (ground_by set) (with_more at opening) mid [] own after done
   list_no_drill Closed (not_opened b) = breaks_so opening after.reply b.breaks
-  list_no_drill (Open opens) (none, done) = done_no_drill l (Judged opens s) (laws.tells opens s) (ground_by set) (at ++ opening) s opens own after done
+  list_no_drill (Open opens) (none, done) = done_no_drill l (Judged opens s) (laws.tells opens s) (ground_by set) (with_more at opening) s opens own after done
 
 -- OF `play`, about its experiment
-abbrev playing : List ℕ → ℕ → ℕ → List ℕ → List OpenSwap → LabState → Result Playing Reply → Type 0
+abbrev pub playing : List ℕ → ℕ → ℕ → List ℕ → List OpenSwap → LabState → Result Playing Reply → Type 0
 playing exp from to text opens s = JudgedPlay s opens exp from to text
 
 plays_are : (exp : List ℕ) (from to : ℕ) (text : List ℕ) (about : List ℕ → Bool) → about exp ≡ true → ListLaws (events_in_turn exp) (playing exp from to text) about
@@ -204,7 +205,7 @@ plays_are exp from to text about own = record {
 }
 
 -- OF `batch`, about the experiments of its runs
-abbrev serving : List ℕ → List OpenSwap → LabState → Result Serving Reply → Type 0
+abbrev pub serving : List ℕ → List OpenSwap → LabState → Result Serving Reply → Type 0
 serving text opens s = JudgedBatch s text
 
 batches_are : (rule : RuleNumber) (moment : ℕ) (text : List ℕ) (about : List ℕ → Bool) → ((batch : Batch) → batch_of_text text ≡ Ok batch → AreOf about batch.runs) → ListLaws (runs_in_turn rule moment) (serving text) about
@@ -216,10 +217,10 @@ batches_are rule moment text about of = record {
 }
 
 -- of any experiments, and of none with another name
-plays_any : (exp : List ℕ) (from to : ℕ) (text : List ℕ) → ListLaws (events_in_turn exp) (playing exp from to text) (λ n. true)
+pub plays_any : (exp : List ℕ) (from to : ℕ) (text : List ℕ) → ListLaws (events_in_turn exp) (playing exp from to text) (λ n. true)
 plays_any exp from to text = plays_are exp from to text (λ n. true) refl
 
-batches_any : (rule : RuleNumber) (moment : ℕ) (text : List ℕ) → ListLaws (runs_in_turn rule moment) (serving text) (λ n. true)
+pub batches_any : (rule : RuleNumber) (moment : ℕ) (text : List ℕ) → ListLaws (runs_in_turn rule moment) (serving text) (λ n. true)
 batches_any rule moment text = batches_are rule moment text (λ n. true) (λ batch means run has. refl)
 
 abbrev but : List ℕ → List ℕ → Bool
@@ -252,7 +253,7 @@ about_not (commands.Batch moment lines text) name other = λ is. cc is
 about_not command name other = named_not (name_of command) name other
 
 -- an experiment with an open swap stays in a batch, whatever its runs name
-pub batch_stays : (terms : Terms) (at : List Event) (set : Setting) (s : LabState) (opens : List OpenSwap) (moment lines : ℕ) (text : List ℕ) (opening own : List Event) (after : After) (name : List ℕ) → is_some s.lab ≡ true → is_busy (names_of opens) name ≡ true
+pub batch_stays : (terms : Terms) (at : Option (List Event)) (set : Setting) (s : LabState) (opens : List OpenSwap) (moment lines : ℕ) (text : List ℕ) (opening own : List Event) (after : After) (name : List ℕ) → is_some s.lab ≡ true → is_busy (names_of opens) name ≡ true
     → LabStep terms at set s (Open opens) (commands.Batch moment lines text) opening own after → Stays name s after.lab
 batch_stays terms at set s opens moment lines text opening own after name there busy step = list_busy (runs_in_turn terms.rule moment) (serving text) _ (batches_any terms.rule moment text) terms at set s opening own after opens name there busy step
 
@@ -265,7 +266,7 @@ named_so (Some exp) name other = elim (cases_Bool (bytes_eq exp name)) [
 ]
 
 -- OF EACH COMMAND
-module _ (terms : Terms) (at : List Event) (set : Setting) (s : LabState) (session : Session) (opening own : List Event) (after : After) where
+module _ (terms : Terms) (at : Option (List Event)) (set : Setting) (s : LabState) (session : Session) (opening own : List Event) (after : After) where
   plain_stops : (command : Command) → is_unjudged command ≡ false → (reply : Reply) → after.reply ≡ Some reply → LabStep terms at set s session command opening own after → CommandTells command opening own reply
   plain_stops command no' reply is step =
       let one = by_one (drill_of command) terms set s session command opening own after (plain_step terms at set s session command opening own after no' step) in
@@ -307,12 +308,20 @@ module _ (terms : Terms) (at : List Event) (set : Setting) (s : LabState) (sessi
       let one = by_one (drill_of command) terms set s session command opening own after (plain_step terms at set s session command opening own after no' step) in
       (one.0, leaves (drill_of command) one.0 terms set s session command opening own after to is (was one.0 terms set s command opening own after (drill_of command) session one.1))
 
-  -- it is a list, and the same are; or as its judgement says
+  -- a list and an audit leave the same ones open
+  pub unjudged_leave : (command : Command) → is_unjudged command ≡ true → (to : List OpenSwap) → after.session ≡ Open to → LabStep terms at set s session command opening own after → to ≡ opens_of session
+  unjudged_leave (commands.Play exp from to' lines text) yes' to is step = list_opens (events_in_turn exp) (playing exp from to' text) _ (plays_any exp from to' text) terms at set s opening own after session to is step
+  unjudged_leave (commands.Batch moment lines text) yes' to is step = list_opens (runs_in_turn terms.rule moment) (serving text) _ (batches_any terms.rule moment text) terms at set s opening own after session to is step
+  unjudged_leave commands.Audit yes' to is step = audit_opens terms at set s opening own after session to is step
+  unjudged_leave command yes' to is step = absurd (cc yes')
+
+  -- the same are open; or as its judgement says
   pub all_leave : (command : Command) (to : List OpenSwap) → after.session ≡ Open to → LabStep terms at set s session command opening own after → (to ≡ opens_of session) ⊎ ((judgement : Result Task Reply) × Leaves set session command judgement to)
-  all_leave (commands.Play exp from to' lines text) to is step = inl (list_opens (events_in_turn exp) (playing exp from to' text) _ (plays_any exp from to' text) terms at set s opening own after session to is step)
-  all_leave (commands.Batch moment lines text) to is step = inl (list_opens (runs_in_turn terms.rule moment) (serving text) _ (batches_any terms.rule moment text) terms at set s opening own after session to is step)
-  all_leave commands.Audit to is step = inl (audit_opens terms at set s opening own after session to is step)
-  all_leave command to is step = inr (plain_leaves command refl to is step)
+  all_leave command to is step = by (is_unjudged command) refl
+    where
+      by : (b : Bool) → is_unjudged command ≡ b → (to ≡ opens_of session) ⊎ ((judgement : Result Task Reply) × Leaves set session command judgement to)
+      by true yes' = inl (unjudged_leave command yes' to is step)
+      by false no' = inr (plain_leaves command no' to is step)
 
   plain_moves : (command : Command) → is_unjudged command ≡ false → (to : List OpenSwap) → after.session ≡ Open to → (s.lab ≡ None → s.experiments ≡ []) → AllDiffer (busy_of session) → AllMove (opens_of session) s → LabStep terms at set s session command opening own after → AllMove to after.lab
   plain_moves command no' to is empty differ all step =
@@ -335,7 +344,7 @@ module _ (terms : Terms) (at : List Event) (set : Setting) (s : LabState) (sessi
   all_place command reply is step = plain_place command refl reply is step
 
 -- NO REPLY OF A DRILL
-pub all_no_drill : (terms : Terms) (at : List Event) (set : Setting) (s : LabState) (session : Session) (command : Command) (opening own : List Event) (after : After) → drill_of command ≡ None → LabStep terms at set s session command opening own after → of_drill_if after.reply ≡ false
+pub all_no_drill : (terms : Terms) (at : Option (List Event)) (set : Setting) (s : LabState) (session : Session) (command : Command) (opening own : List Event) (after : After) → drill_of command ≡ None → LabStep terms at set s session command opening own after → of_drill_if after.reply ≡ false
 all_no_drill terms at set s session (commands.Play exp from to lines text) opening own after is step = list_no_drill (events_in_turn exp) (playing exp from to text) _ (plays_any exp from to text) terms at set s opening own after session step
 all_no_drill terms at set s session (commands.Batch moment lines text) opening own after is step = list_no_drill (runs_in_turn terms.rule moment) (serving text) _ (batches_any terms.rule moment text) terms at set s opening own after session step
 all_no_drill terms at set s session commands.Audit opening own after is step = audit_no_drill terms at set s opening own after session step

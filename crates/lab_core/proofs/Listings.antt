@@ -89,7 +89,7 @@ module _ (about : List ℕ → Bool) (set : Setting) (s : LabState) (opens : Lis
   next_same (Ok (Swap exp way)) plain reply lab to d = does_next (open_by reply lab to) to refl s opens steps set (Ok (Swap exp way)) d
   next_same j plain reply lab to d = absurd plain
 
-module _ {X : Type 0} (l : Listing X) (ground : Ground) (trace : List Event) (Holds : X → Type 0) (about : List ℕ → Bool) (is : IsAboutThese l Holds about) where
+module _ {X : Type 0} (l : Listing X) (ground : Ground) (trace : Option (List Event)) (Holds : X → Type 0) (about : List ℕ → Bool) (is : IsAboutThese l Holds about) where
   -- THE SAME SWAPS ARE OPEN
   open_each : (front : List Event) (at : X) → Holds at → (s : LabState) (opens : List OpenSwap) (steps : List Event) (reply : Reply) (lab : LabState) (to : List OpenSwap) → DoesNext l ground trace front at s opens steps (open_by reply lab to) → to ≡ opens
   open_each front at holds s opens steps reply lab to next = by next.done

@@ -19,7 +19,6 @@ use Rattle.script_text.specs.declared.reply.Reply.TheVariants as replies
 use Rattle.swap_turns.specs.Causes.{IsLater}
 use Rattle.swap_turns.specs.Closing.{Closes}
 use Rattle.swap_turns.proofs.Closing.{Images}
-use Rattle.swap_turns.proofs.Telling.{if_both}
 use Rattle.plant.specs.Seen.{Seen}
 use Rattle.plant.proofs.Traces.{with_steps-nil}
 use Rattle.cost_rule.specs.declared.rule.RuleNumber.{RuleNumber}
@@ -28,11 +27,42 @@ use Rattle.lab_core.specs.declared.fault.CoreFault.TheVariants as faults
 use Rattle.lab_core.specs.Controller.{Control, WorksWith}
 use Rattle.lab_judge.specs.Judge.{Task, Is, Recover}
 use Rattle.lab_core.specs.LabSteps.{IsDoneBy, JudgedBeside, does, no_memory}
-use Rattle.lab_core.specs.Obey.{Start, start_of, IsDone, Leaves, Answers, ObeyEnds, ObeySteps, ObeyTold, Obeyed, WantsIn, undone, between}
+use Rattle.lab_core.specs.Moments.{trace_in}
+use Rattle.lab_core.specs.Obey.{Start, start_of, AllShut, AnswersBy, EndsBy, Obeyed, Shuts, ToldBy, WantsIn, done_as, undone, between, wants_as}
 use Rattle.lab_core.specs.Recovery.{broken_off, some}
 use Rattle.lab_core.specs.Breaks.{unanswered}
-use Rattle.lab_core.specs.Sessions.{After, Closed, Open, OpenSwap, Setting, AreOpenedBy, WereOpen, blames_now, counted_from, ends_swap, name_in}
+use Rattle.lab_core.specs.Sessions.{After, Closed, Open, OpenSwap, Session, Setting, AreOpenedBy, WereOpen, blames_now, counted_from, ends_swap, name_in}
 use Rattle.lab_judge.specs.Tasks.{tells_end, IsMild}
+
+-- OF WHAT WAS JUDGED: it is done, with that reply; and how it ends
+abbrev pub IsDone : (Result Task Reply → Type 0) → Start → List Event → Option Reply → LabState → Session → Type 0
+IsDone IsJudged start own reply lab session = IsDoneBy IsJudged start.set start.lab start.opens own (record { reply = reply; lab = lab; session = session })
+
+abbrev pub Leaves : Option (List Event) → (Result Task Reply → Type 0) → Start → List Event → Reply → (List ℕ → List ℕ → List Event) → Type 0
+Leaves trace IsJudged start own reply behind = Shuts (done_as IsJudged start) trace own reply behind
+
+abbrev pub Answers : Option (List Event) → (Result Task Reply → Type 0) → Start → List Event → Reply → LabState → List OpenSwap → Bool → Type 0
+Answers trace IsJudged start own reply lab to closing = AnswersBy (done_as IsJudged start) trace own reply lab to closing
+
+abbrev pub ObeyEnds : Option (List Event) → (Result Task Reply → Type 0) → Start → List Event → LabState → List OpenSwap → Result Reply CoreFault → Type 0
+ObeyEnds trace IsJudged start own lab to result = EndsBy (done_as IsJudged start) (wants_as IsJudged start) trace own lab to result
+
+abbrev pub ObeyTold : Seen → Seen → (Result Task Reply → Type 0) → Start → LabState → List OpenSwap → Result Reply CoreFault → Type 0
+ObeyTold before now IsJudged start lab to result = ToldBy (done_as IsJudged start) (wants_as IsJudged start) before now lab to result
+
+-- WHAT HOLDS of what a plant tells holds of the trace
+pub in_trace : (told : Option Told) (P : List Event → Type 0) → IfSome told (λ w. P w.trace) → IfSome (trace_in told) P
+in_trace None P h = tt
+in_trace (Some w) P h = h
+
+pub of_trace : (told : Option Told) (P : List Event → Type 0) → IfSome (trace_in told) P → IfSome told (λ w. P w.trace)
+of_trace None P h = tt
+of_trace (Some w) P h = h
+
+-- and of that before some steps more
+pub trace_back : (was now : Option Told) (steps : List Event) (P : List Event → Type 0) → now ≡ with_steps was steps → IfSome (trace_in now) P → IfSome (trace_in was) (λ t. P (t ++ steps))
+trace_back None now steps P is h = tt
+trace_back (Some w) now steps P is h = subst (λ o. IfSome (trace_in o) P) is h
 
 -- no steps more
 pub false_true : {X : Type 0} → false ≡ true → X
@@ -82,19 +112,15 @@ module _ (devices : ℕ) (before now : Seen) (IsJudged : Result Task Reply → T
   abbrev Left : Result Reply CoreFault → Type 0
   Left result = Obeyed devices before now IsJudged old new opens exp result
 
-  steps_by : (result : Result Reply CoreFault) → IfSome before.told (λ w. ObeyEnds w.trace IsJudged start own new.lab to result) → ObeyTold before now IsJudged start new.lab to result
-  steps_by result ends = (
-    own,
-    told,
-    if_both before.told (λ w. ObeyEnds w.trace IsJudged start own new.lab to result) (λ w. IsSound the_texts w.trace → IsSound the_texts (w.trace ++ own)) (λ w. ObeySteps w.trace IsJudged start own new.lab to result) (λ w e s. record { ends = e; sound = s }) ends sound,
-  )
+  steps_by : (result : Result Reply CoreFault) → ObeyEnds (trace_in before.told) IsJudged start own new.lab to result → ObeyTold before now IsJudged start new.lab to result
+  steps_by result ends = (own, told, record { ends = ends; sound = in_trace before.told (λ t. IsSound the_texts t → IsSound the_texts (t ++ own)) sound })
 
   -- IT GOES ON
   pub goes_on : (reply : Reply) → closes reply ≡ false → AreOpenedBy exp (Some reply) opens to devices → IsDone IsJudged start own (Some reply) new.lab (Open to) → WorksWith now new to
       → (blames_device reply ≡ true → Rose (counted_from opens exp devices) now.faults.devices) → (blames_now reply ≡ true → Rose before.faults.devices now.faults.devices) → RunsOn before now → Left (Ok reply)
   goes_on reply open_still opened done works blames here runs = record {
     to = to;
-    obeys = steps_by (Ok reply) (some_all before.told (λ w. ObeyEnds w.trace IsJudged start own new.lab to (Ok reply)) (λ w. subst (λ b. Answers w.trace IsJudged start own reply new.lab to b) (sym open_still) done));
+    obeys = steps_by (Ok reply) (subst (λ b. Answers (trace_in before.told) IsJudged start own reply new.lab to b) (sym open_still) done);
     works = λ _. works;
     limit = limit;
     opened = opened;
@@ -110,7 +136,7 @@ module _ (devices : ℕ) (before now : Seen) (IsJudged : Result Task Reply → T
   pub wants : WereOpen opens to → WantsIn IsJudged start own new.lab to → WorksWith now new to → RunsOn before now → Left (Err faults.Memory)
   wants were done works runs = record {
     to = to;
-    obeys = steps_by (Err faults.Memory) (some_all before.told (λ w. WantsIn IsJudged start own new.lab to) (λ w. done));
+    obeys = steps_by (Err faults.Memory) done;
     works = λ _. works;
     limit = limit;
     opened = as_open exp None opens to devices (λ o has. refl) were;
@@ -125,17 +151,22 @@ module _ (devices : ℕ) (before now : Seen) (IsJudged : Result Task Reply → T
   -- IT IS CLOSED, by what its steps are
   module _ (Is : List Event → LabState → Type 0) (closed : Closes the_texts before.told own Is) (reply : Reply) (behind : List ℕ → List ℕ → List Event)
       (done : (lab : LabState) → Is own lab → (a b : List ℕ) → IsDone IsJudged start (own ++ behind a b) (Some reply) lab Closed) where
-    leaves : IfSome before.told (λ w. Leaves w.trace IsJudged start own reply behind)
-    leaves = some_weaker before.told (λ w. Images the_texts w.trace own (Is own)) (λ w. Leaves w.trace IsJudged start own reply behind)
-        (λ w images. record { lab = closed.after; done = done closed.after closed.is; images = λ sound a b possible. let i = images sound a b possible in (i.0, i.1, done i.0 i.2 a b) }) closed.images
+    abbrev All : List Event → Type 0
+    All t = IsSound the_texts t → AllShut (done_as IsJudged start) (trace_in before.told) own reply behind t
+
+    leaves : Leaves (trace_in before.told) IsJudged start own reply behind
+    leaves = record {
+      lab = closed.after;
+      done = done closed.after closed.is;
+      images = in_trace before.told All (some_weaker before.told (λ w. Images the_texts w.trace own (Is own)) (λ w. All w.trace) (λ w images sound a b possible. let i = images sound a b possible in (i.0, i.1, done i.0 i.2 a b)) closed.images);
+    }
 
   -- by a reply that blames no device
   pub closed_by : WereOpen opens to → (reply : Reply) → closes reply ≡ true → blames_device reply ≡ false → (Is : List Event → LabState → Type 0) → Closes the_texts before.told own Is
       → ((lab : LabState) → Is own lab → IsDone IsJudged start (own ++ []) (Some reply) lab Closed) → Rose before.faults.disk now.faults.disk → RunsOn before now → Left (Ok reply)
   closed_by were reply closing mild Is closed done rose runs = record {
     to = to;
-    obeys = steps_by (Ok reply) (some_weaker before.told (λ w. Leaves w.trace IsJudged start own reply (λ a b. [])) (λ w. ObeyEnds w.trace IsJudged start own new.lab to (Ok reply))
-        (λ w l. subst (λ b. Answers w.trace IsJudged start own reply new.lab to b) (sym closing) l) (leaves Is closed reply (λ a b. []) (λ lab is a b. done lab is)));
+    obeys = steps_by (Ok reply) (subst (λ b. Answers (trace_in before.told) IsJudged start own reply new.lab to b) (sym closing) (leaves Is closed reply (λ a b. []) (λ lab is a b. done lab is)));
     works = λ going. false_true (subst (λ b. not b ≡ true) closing going);
     limit = limit;
     opened = as_open exp (Some reply) opens to devices (λ o has. shut_ends reply (name_in o) closing) were;
@@ -205,18 +236,18 @@ module _ (A B : Result Task Reply → Type 0) (each : (j : Result Task Reply) �
   done_by set s opens own after (does judgement judged done) = does judgement (each judgement judged) done
   done_by set s opens own after (no_memory wants) = no_memory wants
 
-  left_by : (trace : List Event) (start : Start) (own : List Event) (reply : Reply) (behind : List ℕ → List ℕ → List Event) → Leaves trace A start own reply behind → Leaves trace B start own reply behind
+  left_by : (trace : Option (List Event)) (start : Start) (own : List Event) (reply : Reply) (behind : List ℕ → List ℕ → List Event) → Leaves trace A start own reply behind → Leaves trace B start own reply behind
   left_by trace start own reply behind l = record {
     lab = l.lab;
     done = λ a b. done_by start.set start.lab start.opens (own ++ behind a b) _ (l.done a b);
-    images = λ sound a b possible. let i = l.images sound a b possible in (i.0, i.1, done_by start.set start.lab start.opens (own ++ behind a b) _ i.2);
+    images = some_weaker trace (λ t. IsSound the_texts t → AllShut (done_as A start) trace own reply behind t) (λ t. IsSound the_texts t → AllShut (done_as B start) trace own reply behind t) (λ t images sound a b possible. let i = images sound a b possible in (i.0, i.1, done_by start.set start.lab start.opens (own ++ behind a b) _ i.2)) l.images;
   }
 
-  answers_by : (trace : List Event) (start : Start) (own : List Event) (reply : Reply) (lab : LabState) (to : List OpenSwap) (closing : Bool) → Answers trace A start own reply lab to closing → Answers trace B start own reply lab to closing
+  answers_by : (trace : Option (List Event)) (start : Start) (own : List Event) (reply : Reply) (lab : LabState) (to : List OpenSwap) (closing : Bool) → Answers trace A start own reply lab to closing → Answers trace B start own reply lab to closing
   answers_by trace start own reply lab to false h = done_by start.set start.lab start.opens own _ h
   answers_by trace start own reply lab to true h = left_by trace start own reply (λ a b. []) h
 
-  ends_by : (trace : List Event) (start : Start) (own : List Event) (lab : LabState) (to : List OpenSwap) (result : Result Reply CoreFault) → ObeyEnds trace A start own lab to result → ObeyEnds trace B start own lab to result
+  ends_by : (trace : Option (List Event)) (start : Start) (own : List Event) (lab : LabState) (to : List OpenSwap) (result : Result Reply CoreFault) → ObeyEnds trace A start own lab to result → ObeyEnds trace B start own lab to result
   ends_by trace start own lab to (Ok reply) h = answers_by trace start own reply lab to (closes reply) h
   ends_by trace start own lab to (Err faults.Stopped) h = left_by trace start own _ _ h
   ends_by trace start own lab to (Err faults.Memory) (undone none lab_is to_is) = undone none lab_is to_is
@@ -230,8 +261,7 @@ module _ (A B : Result Task Reply → Type 0) (each : (j : Result Task Reply) �
         obeys = (
           h.obeys.0,
           h.obeys.1,
-          some_weaker before.told (λ t. ObeySteps t.trace A start h.obeys.0 new.lab h.to result) (λ t. ObeySteps t.trace B start h.obeys.0 new.lab h.to result)
-              (λ t f. record { ends = ends_by t.trace start h.obeys.0 new.lab h.to result f.ends; sound = f.sound }) h.obeys.2,
+          record { ends = ends_by (trace_in before.told) start h.obeys.0 new.lab h.to result h.obeys.2.ends; sound = h.obeys.2.sound },
         );
         works = h.works;
         limit = h.limit;

@@ -79,7 +79,7 @@ module _ (set : Setting) (s : LabState) (opens : List OpenSwap) (exp : List ℕ)
       let busy = is_among (names_of opens) (Some exp) in
       by_task (Finish exp) (judged_finish s busy exp) one_ended (finish_or_refused s busy exp) (subst (λ (j : Result Task Reply). Does set s opens j own after) judged did)
 
-  step_spares : (terms : Terms) (at : List Event) (command : Command) (opening : List Event) → IsTurnOf exp command → LabStep terms at set s (Open opens) command opening own after → Spares own
+  step_spares : (terms : Terms) (at : Option (List Event)) (command : Command) (opening : List Event) → IsTurnOf exp command → LabStep terms at set s (Open opens) command opening own after → Spares own
   step_spares terms at command opening (inl is) step =
       let turn : LabStep terms at set s (Open opens) (commands.Turn exp) opening own after = subst (λ (c : Command). LabStep terms at set s (Open opens) c opening own after) is step in
       turn_spares terms.rule turn.1
@@ -88,7 +88,7 @@ module _ (set : Setting) (s : LabState) (opens : List OpenSwap) (exp : List ℕ)
       finish_spares terms.rule finish.1
 
 -- OVER A TRACE
-pub others_spared : (terms : Terms) (at : List Event) (set : Setting) (s : LabState) (opens : List OpenSwap) (command : Command) (opening own : List Event) (after : After) (trace : List Event) (exp : List ℕ) (e : Experiment)
+pub others_spared : (terms : Terms) (at : Option (List Event)) (set : Setting) (s : LabState) (opens : List OpenSwap) (command : Command) (opening own : List Event) (after : After) (trace : List Event) (exp : List ℕ) (e : Experiment)
     → Sane s → IsTurnOf exp command → Has s.experiments e → e.name ≢ exp → LabStep terms at set s (Open opens) command opening own after
     → SameFor (lab_in s.lab) e (world_of trace) (world_of (trace ++ own))
 others_spared terms at set s opens command opening own after trace exp e sane turns has other step =

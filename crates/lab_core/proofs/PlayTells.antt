@@ -1,5 +1,5 @@
 -- The reply to a play tells what is so in the lab behind it.
-use Rattle.std.proofs.Common.{◌≡◌, arith, ℕ, Bool, true, false, ◌||◌, is_some, List, [], ◌∷◌, ◌++◌, length, Option, Some, None, Result, Ok, Err, refl, sym, ap, subst, ◌∙◌}
+use Rattle.std.proofs.Common.{◌≡◌, arith, ℕ, Bool, true, false, ◌||◌, is_some, List, [], ◌∷◌, length, Option, Some, None, Result, Ok, Err, refl, sym, ap, subst, ◌∙◌}
 use Rattle.std.proofs.lemmas.Option.{same_Some}
 use Rattle.plant.specs.Events.{Event}
 use Rattle.phys_lab.specs.Labs.{Lab}
@@ -34,6 +34,7 @@ use Rattle.lab_core.proofs.Events.{FitsPlain, event_fits, plays_first, refuse_so
 use Rattle.lab_core.proofs.BatchLines.{last_tells, line_so}
 use Rattle.lab_core.proofs.Places.{does_place}
 use Rattle.lab_core.proofs.Refusals.{IsMade, does_idle}
+use Rattle.lab_core.specs.Moments.{with_more}
 
 -- A SWAP THAT IS ANSWERED AS IN is of its own experiment
 done_in : (n : List ℕ) (new : Option Mapped) (name : List ℕ) → done_reply n new ≡ replies.In name → n ≡ name
@@ -113,7 +114,7 @@ module _ (exp : List ℕ) where
   ended_so None u on still told = on refl
   ended_so (Some reply) u on still told = (still reply refl, last_tells u reply (told reply refl))
 
-  module _ (base : Ground) (trace : List Event) where
+  module _ (base : Ground) (trace : Option (List Event)) where
     past_at : (start : Playing) (s : LabState) (opens : List OpenSwap) (own : List Event) (at : Playing) (u : LabState) (to : List OpenSwap) → At exp start s → Past (events_in_turn exp) base trace start s opens own at u to → At exp at u
     past_at start s opens own at u to first none = first
     past_at start s opens own at u to first (more front place mid between past steps reply u' to' next) =
@@ -172,7 +173,7 @@ plays_start s opens exp from until text start (asked p needed has) = record {
   told = λ reply is. let none' : None ≡ Some reply = sym (plays_first s opens exp from until text start (asked p needed has)) ∙ is in absurd (cc none');
 }
 
-module _ (exp : List ℕ) (from until : ℕ) (text : List ℕ) (base : Ground) (trace : List Event) (after : After) (reply : Reply) (replied : after.reply ≡ Some reply) (played : is_played reply ≡ true) where
+module _ (exp : List ℕ) (from until : ℕ) (text : List ℕ) (base : Ground) (trace : Option (List Event)) (after : After) (reply : Reply) (replied : after.reply ≡ Some reply) (played : is_played reply ≡ true) where
   not_stopped : reply ≡ replies.Stopped → ⊥
   not_stopped is = let both : true ≡ false = sym played ∙ ap is_played is in cc both
 
@@ -190,13 +191,13 @@ breaks_not events told reply is played (failed once miss so) = let same : reply 
 breaks_not events told reply is played (unanswered none') = let both : None ≡ Some reply = sym none' ∙ is in absurd (cc both)
 
 -- A LAB STEP of `play`
-module _ (terms : Terms) (at : List Event) (set : Setting) (s : LabState) (exp : List ℕ) (from until lines : ℕ) (text : List ℕ) (opening own : List Event) (after : After) (reply : Reply) (is : after.reply ≡ Some reply) (played : is_played reply ≡ true) where
+module _ (terms : Terms) (at : Option (List Event)) (set : Setting) (s : LabState) (exp : List ℕ) (from until lines : ℕ) (text : List ℕ) (opening own : List Event) (after : After) (reply : Reply) (is : after.reply ≡ Some reply) (played : is_played reply ≡ true) where
   step_tells : (session : Session) → LabStep terms at set s session (commands.Play exp from until lines text) opening own after → PlayTells (there_in after.lab) exp reply
-  step_tells Closed (opened mid opens done) = plays_tell exp from until text (ground_by set) (at ++ opening) after reply is played mid [] own done
+  step_tells Closed (opened mid opens done) = plays_tell exp from until text (ground_by set) (with_more at opening) after reply is played mid [] own done
   step_tells Closed (not_opened b) = breaks_not opening after.reply reply is played b.breaks
-  step_tells (Open opens) (none', done) = plays_tell exp from until text (ground_by set) (at ++ opening) after reply is played s opens own done
+  step_tells (Open opens) (none', done) = plays_tell exp from until text (ground_by set) (with_more at opening) after reply is played s opens own done
 
-pub play_tells : (terms : Terms) (at : List Event) (set : Setting) (s : LabState) (session : Session) (exp name : List ℕ) (from until lines count : ℕ) (text last : List ℕ) (closing blaming : Bool) (opening own : List Event) (after : After)
+pub play_tells : (terms : Terms) (at : Option (List Event)) (set : Setting) (s : LabState) (session : Session) (exp name : List ℕ) (from until lines count : ℕ) (text last : List ℕ) (closing blaming : Bool) (opening own : List Event) (after : After)
     → after.reply ≡ Some (replies.Played name count last closing blaming) → LabStep terms at set s session (commands.Play exp from until lines text) opening own after → PlayTells (there_in after.lab) exp (replies.Played name count last closing blaming)
 play_tells terms at set s session exp name from until lines count text last closing blaming opening own after is step = step_tells terms at set s exp from until lines text opening own after _ is refl session step
 

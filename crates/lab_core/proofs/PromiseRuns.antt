@@ -411,7 +411,7 @@ module _ (nodes : LeftNodes) (law : FoundShaped) (rule : RuleNumber) (moment : �
   one_more s u at run left reply left_is st calm (entered lab e m tags is_lab found out u_is fit exp reply_is sane) =
       enters nodes moment s u at run st lab e m tags is_lab found out u_is fit sane (with_end moment at.left reply at.ends) (λ i. with_end moment (left_is i) (reply_is i) at.ends) (at.told ++ reply ∷ []) (drop 1 at.left)
 
-  module _ (base : Ground) (trace : List Event) (s : LabState) (opens : List OpenSwap) (start : Serving) (first : Stands moment s start) where
+  module _ (base : Ground) (trace : Option (List Event)) (s : LabState) (opens : List OpenSwap) (start : Serving) (first : Stands moment s start) where
     past_stands : (own : List Event) (at : Serving) (u : LabState) (to : List OpenSwap) → Past (runs_in_turn rule moment) base trace start s opens own at u to → some_stuck at.told ≡ false → Stands moment u at
     past_stands own at u to none calm = first
     past_stands own at u to (more front at' mid between past steps reply lab to' next) calm =
@@ -426,7 +426,7 @@ module _ (nodes : LeftNodes) (law : FoundShaped) (rule : RuleNumber) (moment : �
         by left is st calm_here (no_memory wants) = absurd (cc (ap (λ (a : After). a.reply) wants.after_is))
 
   -- A BATCH KEEPS ITS PROMISES
-  pub keeps_promises : (base : Ground) (trace : List Event) (s : LabState) (opens : List OpenSwap) (text : List ℕ) (start at : Serving) (own : List Event) (u : LabState) (to : List OpenSwap) → Sane s → JudgedBatch s text (Ok start)
+  pub keeps_promises : (base : Ground) (trace : Option (List Event)) (s : LabState) (opens : List OpenSwap) (text : List ℕ) (start at : Serving) (own : List Event) (u : LabState) (to : List OpenSwap) → Sane s → JudgedBatch s text (Ok start)
       → Past (runs_in_turn rule moment) base trace start s opens own at u to → some_stuck at.told ≡ false → AreKept u moment at.promises at.ends
   keeps_promises base trace s opens text start at own u to sane judged past calm =
       let none_yet : start.ends ≡ [] = ap (λ (p : Serving). p.ends) (batch_first s text start judged).2 in

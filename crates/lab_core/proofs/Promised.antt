@@ -1,5 +1,5 @@
 -- The promises of a batch, by its text and the replies to its runs.
-use Rattle.std.proofs.Common.{◌≡◌, ℕ, Bool, true, false, List, [], ◌∷◌, ◌++◌, append_assoc, drop, Some, refl, sym, ◌∙◌, ap, subst}
+use Rattle.std.proofs.Common.{◌≡◌, ℕ, Bool, true, false, List, [], ◌∷◌, ◌++◌, append_assoc, drop, Some, refl, sym, ◌∙◌, ap, subst, Option}
 use Rattle.plant.specs.Events.{Event}
 use Rattle.cost_rule.specs.declared.rule.RuleNumber.{RuleNumber}
 use Rattle.records_model.specs.Labs.{LabState, Sane}
@@ -61,7 +61,7 @@ module _ (moment : ℕ) where
     ends = (λ i. with_end moment (is.left i) reply (is.ends i)) ∙ sym (ends_more batch.runs at.told reply);
   }
 
-  module _ (rule : RuleNumber) (base : Ground) (trace : List Event) (s : LabState) (opens : List OpenSwap) (batch : Batch) (start : Serving) (first : start ≡ first_run batch) where
+  module _ (rule : RuleNumber) (base : Ground) (trace : Option (List Event)) (s : LabState) (opens : List OpenSwap) (batch : Batch) (start : Serving) (first : start ≡ first_run batch) where
     past_place : (own : List Event) (at : Serving) (u : LabState) (to : List OpenSwap) → Past (runs_in_turn rule moment) base trace start s opens own at u to → IsPlace batch at
     past_place own at u to none = subst (λ (p : Serving). IsPlace batch p) (sym first) (record { promises = refl; left = refl; ends = refl })
     past_place own at u to (more front at' mid between past steps reply lab to' next) = place_on batch at' reply (past_place front at' mid between past)
@@ -71,7 +71,7 @@ is_served (replies.Served served) = true
 is_served reply = false
 
 -- A BATCH THAT WAS SERVED
-module _ (nodes : LeftNodes) (rule : RuleNumber) (moment : ℕ) (text : List ℕ) (trace : List Event) (set : Setting) (s : LabState) (opens : List OpenSwap) (own : List Event) (after : After) (served : Served) (to : List OpenSwap) (sane : Sane s)
+module _ (nodes : LeftNodes) (rule : RuleNumber) (moment : ℕ) (text : List ℕ) (trace : Option (List Event)) (set : Setting) (s : LabState) (opens : List OpenSwap) (own : List Event) (after : After) (served : Served) (to : List OpenSwap) (sane : Sane s)
     (is : after.reply ≡ Some (replies.Served served)) (open_now : after.session ≡ Open to) where
   told_so : (reply : Reply) → after.reply ≡ Some reply → reply ≡ replies.Served served
   told_so reply told = let both : Some reply ≡ Some (replies.Served served) = sym told ∙ is in cc both

@@ -36,11 +36,11 @@ use Rattle.lab_core.specs.Breaks.{Breaks, StartsBehind, stopped, failed}
 use Rattle.lab_core.specs.Controller.{Control, WorksWith}
 use Rattle.lab_judge.specs.Judge.{Recover, Is}
 use Rattle.lab_core.specs.LabSteps.{does}
-use Rattle.lab_core.specs.Obey.{start_of, IsDone, Obeyed, between}
+use Rattle.lab_core.specs.Obey.{start_of, Obeyed, between}
 use Rattle.lab_core.specs.Perform.{recover_answer}
 use Rattle.lab_core.specs.Recovery.{settled, broken_off, within}
 use Rattle.lab_core.specs.Sessions.{OpenSwap, Closed, names_of}
-use Rattle.lab_core.proofs.Obey.{RunsOn, as_open, closed_by, false_true, goes_on, halted, same_open, wants}
+use Rattle.lab_core.proofs.Obey.{RunsOn, as_open, closed_by, false_true, goes_on, halted, same_open, wants, IsDone}
 use Rattle.lab_core.proofs.OpenSwaps.{Pair, since_later}
 use Rattle.lab_judge.proofs.Busy.{busy_has, has_busy}
 use Rattle.lab_core.proofs.OpenNames.{has_opens, opens_has}

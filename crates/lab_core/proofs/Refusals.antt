@@ -1,8 +1,7 @@
 -- A reply that isn't of steps comes without any.
-use Rattle.std.proofs.Common.{◌≡◌, ℕ, Bool, true, false, List, [], ◌++◌, Option, Some, None, Result, Ok, Err, refl, sym, ap, ◌∙◌, subst, arith}
+use Rattle.std.proofs.Common.{◌≡◌, ℕ, Bool, true, false, List, [], Option, Some, None, Result, Ok, Err, refl, sym, ap, ◌∙◌, subst, arith}
 use Rattle.std.proofs.lemmas.Option.{same_Some}
 use Rattle.plant.specs.Events.{Event}
-use Rattle.plant.specs.Worlds.{World, world_of}
 use Rattle.plant.specs.declared.drill.Drill.{Drill}
 use Rattle.journal_rec.specs.declared.record.Record.TheVariants.{Begin}
 use Rattle.journal_model.specs.Appends.{Run}
@@ -29,6 +28,7 @@ use Rattle.lab_core.specs.BatchList.{runs_in_turn}
 use Rattle.lab_core.specs.Recovery.{Recovers, broken_off, settled}
 use Rattle.lab_core.specs.Sessions.{After, Closed, Open, OpenSwap, Session, Setting, Terms}
 use Rattle.lab_core.specs.Tells.{is_of_steps}
+use Rattle.lab_core.specs.Moments.{with_more}
 
 -- A JUDGEMENT that appends a record is told by a reply of steps
 abbrev pub IsMade : Result Task Reply → Type 0
@@ -156,24 +156,24 @@ module _ (set : Setting) (s : LabState) (opens : List OpenSwap) (own : List Even
   last_made l made at (Some replies.Stopped) is = as_told _ reply is refl
   last_made l made at (Some told) is = as_told _ reply is (made (l.behind at told))
 
-  lists_made : {X : Type 0} (l : Listing X) (base : Ground) (trace : List Event) → ((at : X) → is_of_steps (l.whole at) ≡ true) → (start : X) → Lists l base trace start s opens own after → is_of_steps reply ≡ true
+  lists_made : {X : Type 0} (l : Listing X) (base : Ground) (trace : Option (List Event)) → ((at : X) → is_of_steps (l.whole at) ≡ true) → (start : X) → Lists l base trace start s opens own after → is_of_steps reply ≡ true
   lists_made l base trace made start (over at lab to past ends after_is) = as_told _ reply (sym (ap (λ (a : After). a.reply) after_is) ∙ replied) (made at)
   lists_made l base trace made start (list_broken front steps at mid between told lab own_is past next after_is) = last_made l made at told (sym (ap (λ (a : After). a.reply) after_is) ∙ replied)
   lists_made l base trace made start (wanting at lab to past after_is) = none_told reply (sym (ap (λ (a : After). a.reply) after_is) ∙ replied)
 
-  list_idle : {X : Type 0} (l : Listing X) (JudgedList : Result X Reply → Type 0) (base : Ground) (trace : List Event) → ((at : X) → is_of_steps (l.whole at) ≡ true) → DoesList l JudgedList base trace s opens own after → own ≡ []
+  list_idle : {X : Type 0} (l : Listing X) (JudgedList : Result X Reply → Type 0) (base : Ground) (trace : Option (List Event)) → ((at : X) → is_of_steps (l.whole at) ≡ true) → DoesList l JudgedList base trace s opens own after → own ≡ []
   list_idle l JudgedList base trace made (list_refused r judged d) = d.nothing
   list_idle l JudgedList base trace made (list_no_memory wants) = wants.nothing
   list_idle l JudgedList base trace made (listed start judged lists) = never (lists_made l base trace made start lists)
 
-  audit_idle : (w : World) → Audits w s opens own after → own ≡ []
+  audit_idle : (trace : Option (List Event)) → Audits trace s opens own after → own ≡ []
   audit_idle w (no_lab is d) = d.nothing
-  audit_idle w (audit_told report none tells exact after_is) = none
+  audit_idle w (audit_told report none tells after_is) = none
   audit_idle w (audit_unread name one after_is) = never (as_told _ reply (sym (ap (λ (a : After). a.reply) after_is) ∙ replied) refl)
   audit_idle w (audit_no_memory wants) = wants.nothing
 
 -- A LAB STEP whose reply isn't of steps has none of its own
-module _ (terms : Terms) (at : List Event) (set : Setting) (s : LabState) (opening own : List Event) (after : After) (reply : Reply) (replied : after.reply ≡ Some reply) (no_steps : is_of_steps reply ≡ false) where
+module _ (terms : Terms) (at : Option (List Event)) (set : Setting) (s : LabState) (opening own : List Event) (after : After) (reply : Reply) (replied : after.reply ≡ Some reply) (no_steps : is_of_steps reply ≡ false) where
   abbrev Step : (List OpenSwap → LabState → List Event → After → Type 0) → Session → Type 0
   Step Does session = StepOf None Does terms s session opening own after
 
@@ -192,10 +192,10 @@ module _ (terms : Terms) (at : List Event) (set : Setting) (s : LabState) (openi
 
   pub step_idle : (command : Command) (session : Session) → LabStep terms at set s session command opening own after → own ≡ []
   step_idle (commands.Play exp from until lines text) session step =
-      by_does (DoesCommand terms.rule (commands.Play exp from until lines text) (at ++ opening) set)
-      (λ opens mid d. list_idle set mid opens own after reply replied no_steps (events_in_turn exp) (JudgedPlay mid opens exp from until text) (ground_by set) (at ++ opening) (λ p. refl) d) session step
+      by_does (DoesCommand terms.rule (commands.Play exp from until lines text) (with_more at opening) set)
+      (λ opens mid d. list_idle set mid opens own after reply replied no_steps (events_in_turn exp) (JudgedPlay mid opens exp from until text) (ground_by set) (with_more at opening) (λ p. refl) d) session step
   step_idle (commands.Batch moment lines text) session step =
-      by_does (DoesCommand terms.rule (commands.Batch moment lines text) (at ++ opening) set)
-      (λ opens mid d. list_idle set mid opens own after reply replied no_steps (runs_in_turn terms.rule moment) (JudgedBatch mid text) (ground_by set) (at ++ opening) (λ p. refl) d) session step
-  step_idle commands.Audit session step = by_does (DoesCommand terms.rule commands.Audit (at ++ opening) set) (λ opens mid d. audit_idle set mid opens own after reply replied no_steps (world_of (at ++ opening)) d) session step
+      by_does (DoesCommand terms.rule (commands.Batch moment lines text) (with_more at opening) set)
+      (λ opens mid d. list_idle set mid opens own after reply replied no_steps (runs_in_turn terms.rule moment) (JudgedBatch mid text) (ground_by set) (with_more at opening) (λ p. refl) d) session step
+  step_idle commands.Audit session step = by_does (DoesCommand terms.rule commands.Audit (with_more at opening) set) (λ opens mid d. audit_idle set mid opens own after reply replied no_steps (with_more at opening) d) session step
   step_idle command session step = plain_idle (drill_of command) command session step

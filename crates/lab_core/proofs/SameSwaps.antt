@@ -35,7 +35,7 @@ has_at exp [] o is = absurd (cc is)
 has_at exp (x ∷ opens) o is = by_test (bytes_eq (name_in x) exp) exp x o opens refl is (λ more. has_at exp opens o more)
 
 -- it is so with more behind
-at_front : (exp : List ℕ) (opens more : List OpenSwap) (o : OpenSwap) → open_at exp opens ≡ Some o → open_at exp (opens ++ more) ≡ Some o
+pub at_front : (exp : List ℕ) (opens more : List OpenSwap) (o : OpenSwap) → open_at exp opens ≡ Some o → open_at exp (opens ++ more) ≡ Some o
 at_front exp [] more o is = absurd (cc is)
 at_front exp (x ∷ opens) more o is = by (bytes_eq (name_in x) exp) (λ next. at_front exp opens more o next) is
   where
@@ -130,7 +130,7 @@ longer : (exp : List ℕ) → exp ≢ 0 ∷ exp
 longer [] = λ same. cc same
 longer (x ∷ exp) = λ same. (let rest : exp ≡ x ∷ exp = cc same in let first : x ≡ 0 = cc same in longer exp (rest ∙ ap (λ n. n ∷ exp) first))
 
-plain_same : (terms : Terms) (at : List Event) (set : Setting) (s : LabState) (opens : List OpenSwap) (command : Command) → ((name : List ℕ) → name_of command ≢ Some name → is_about command name ≡ false) → (opening own : List Event) (after : After) (exp : List ℕ) (o : OpenSwap) → is_some s.lab ≡ true → open_at exp opens ≡ Some o
+plain_same : (terms : Terms) (at : Option (List Event)) (set : Setting) (s : LabState) (opens : List OpenSwap) (command : Command) → ((name : List ℕ) → name_of command ≢ Some name → is_about command name ≡ false) → (opening own : List Event) (after : After) (exp : List ℕ) (o : OpenSwap) → is_some s.lab ≡ true → open_at exp opens ≡ Some o
     → LabStep terms at set s (Open opens) command opening own after → after.lab.lab ≡ s.lab
 plain_same terms at set s opens command others opening own after exp o there is step = by (name_of command) refl
   where
@@ -145,7 +145,7 @@ plain_same terms at set s opens command others opening own after exp o there is 
     by None named = by_name exp (λ same. (let both : None ≡ Some exp = sym named ∙ same in cc both)) (λ settled. settles_busy opens command exp busy settled)
     by (Some name) named = by_name (0 ∷ name) (λ same. longer name (same_Some name (0 ∷ name) (sym named ∙ same))) (λ settled. settles_not opens command name (0 ∷ name) named settled)
 
-pub lab_same : (terms : Terms) (at : List Event) (set : Setting) (s : LabState) (opens : List OpenSwap) (command : Command) (opening own : List Event) (after : After) (exp : List ℕ) (o : OpenSwap) → is_some s.lab ≡ true → open_at exp opens ≡ Some o
+pub lab_same : (terms : Terms) (at : Option (List Event)) (set : Setting) (s : LabState) (opens : List OpenSwap) (command : Command) (opening own : List Event) (after : After) (exp : List ℕ) (o : OpenSwap) → is_some s.lab ≡ true → open_at exp opens ≡ Some o
     → LabStep terms at set s (Open opens) command opening own after → after.lab.lab ≡ s.lab
 lab_same terms at set s opens (commands.Batch moment lines text) opening own after exp o there is step =
     let h = has_at exp opens o is in

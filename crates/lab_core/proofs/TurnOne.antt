@@ -22,12 +22,13 @@ use Rattle.lab_core.specs.Breaks.{StartsBehind}
 use Rattle.lab_core.specs.Controller.{Control, WorksWith}
 use Rattle.lab_judge.specs.Judge.{Turn, Is}
 use Rattle.lab_core.specs.LabSteps.{IsOneOf, does, end_session, is_told, turn_reply, turned_on}
-use Rattle.lab_core.specs.Obey.{start_of, IsDone, Obeyed}
+use Rattle.lab_core.specs.Obey.{start_of, Obeyed}
 use Rattle.lab_core.specs.Sessions.{OpenSwap, Session, HasRisenBy, IsSince, counted_from, devices_if, name_in, open_at}
 use Rattle.lab_core.specs.Swapping.{HasTurnedIn, progress_answer}
 use Rattle.lab_core.proofs.OpenSwaps.{Pair, Place, has_front, has_one, has_rest, open_at_one, open_turned, others_before, others_behind, place_of, risen_by, risen_later, running_of, since_later, since_turned, swaps_in, turned_running}
 use Rattle.lab_core.proofs.PerformSwap.{HasEnded, IsCausedNow, IsCausedSince, LeavesOpen, by_outcome}
 use Rattle.lab_core.proofs.Told.{Halts, IsAnswer, answered, halts_as}
+use Rattle.lab_core.proofs.Obey.{IsDone}
 
 -- a turn has its causes, and so has a leg that ends, since the swap was opened
 turn_caused : (o : OpenSwap) (leg : Leg) (was now : Seen) → was.faults.devices ≤ now.faults.devices → IsSince was.faults.devices o → o.running.leg ≡ leg → IsCausedSince (Ended leg) o.devices was now

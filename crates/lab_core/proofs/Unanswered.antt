@@ -4,7 +4,7 @@ use Rattle.std.specs.Prelude.{IfSome}
 use Rattle.std.proofs.lemmas.Bool.{cases_lt}
 use Rattle.std.proofs.lemmas.List.{append-nil, take-append-le, take_all}
 use Rattle.lab_base.specs.Counts.{Rose}
-use Rattle.lab_base.proofs.Tests.{never_both, some_all}
+use Rattle.lab_base.proofs.Tests.{never_both}
 use Rattle.plant.specs.Disks.{Disk, ArePossible}
 use Rattle.plant.specs.Events.{Event, Unread}
 use Rattle.plant.specs.Seen.{Seen}
@@ -42,13 +42,14 @@ use Rattle.script_text.specs.declared.reply.Reply.{Reply}
 use Rattle.script_text.specs.declared.reply.Reply.TheVariants as replies
 use Rattle.swap_turns.proofs.Pushing.{rose_later}
 use Rattle.swap_turns.proofs.Telling.{if_both, sound_front}
-use Rattle.lab_core.specs.Auditing.{Audits, broken_by, no_lab as lab_missing, told as all_told, unread as one_unread}
+use Rattle.lab_core.specs.Auditing.{Audits, IsReport, broken_by, no_lab as lab_missing, told as all_told, unread as one_unread}
 use Rattle.lab_core.specs.declared.fault.CoreFault.TheVariants as faults
-use Rattle.lab_core.specs.Obey.{AnswersBy, Doing, ObeysCommand, StepsBy, Wanting, does_command, wants_of_command}
+use Rattle.lab_core.specs.Moments.{trace_in}
+use Rattle.lab_core.specs.Obey.{AnswersBy, Doing, ObeysCommand, Wanting, does_command, wants_of_command}
 use Rattle.lab_core.specs.Sessions as sessions
 use Rattle.lab_core.specs.Sessions.{blames_now, name_in, open_by}
 use Rattle.lab_judge.specs.Tasks.{tells_end}
-use Rattle.lab_core.proofs.Obey.{as_open, calm_ends, false_true, same_open}
+use Rattle.lab_core.proofs.Obey.{as_open, calm_ends, false_true, in_trace, same_open}
 use Rattle.lab_core.proofs.OpenSwaps.{risen_later}
 
 -- a sound trace stays sound
@@ -162,15 +163,13 @@ module _ (rule : RuleNumber) (devices : ℕ) (before now : Seen) (unread : Optio
 
   pub audit_answered : (reply : Reply) → closes reply ≡ false → tells_end reply ≡ false → (blames_device reply ≡ true → Rose devices now.faults.devices)
       → (blames_now reply ≡ true → Rose before.faults.devices now.faults.devices) → Reads before now unread
-      → IfSome before.told (λ w. Audits (world_of w.trace) c.lab opens (steps_of unread) (open_by reply c.lab opens)) → ObeysCommand rule commands.Audit devices before now c c opens (Ok reply)
+      → Audits (trace_in before.told) c.lab opens (steps_of unread) (open_by reply c.lab opens) → ObeysCommand rule commands.Audit devices before now c c opens (Ok reply)
   audit_answered reply open_still no_end blamed here r done = record {
     to = opens;
     obeys = (
       steps_of unread,
       r.told,
-      if_both before.told (λ w. Audits (world_of w.trace) c.lab opens (steps_of unread) (open_by reply c.lab opens)) (λ w. IsSound the_texts w.trace → IsSound the_texts (w.trace ++ steps_of unread))
-          (λ w. StepsBy Done Wants w.trace (steps_of unread) c.lab opens (Ok reply))
-          (λ w d sound. record { ends = subst (λ b. AnswersBy Done w.trace (steps_of unread) reply c.lab opens b) (sym open_still) d; sound = sound }) done (reads_sound before.told unread),
+      record { ends = subst (λ b. AnswersBy Done (trace_in before.told) (steps_of unread) reply c.lab opens b) (sym open_still) done; sound = in_trace before.told (λ t. IsSound the_texts t → IsSound the_texts (t ++ steps_of unread)) (reads_sound before.told unread) },
     );
     works = λ _. reads_work before now unread c opens r works;
     limit = refl;
@@ -186,7 +185,7 @@ module _ (rule : RuleNumber) (devices : ℕ) (before now : Seen) (unread : Optio
   audit_wanted : Reads before now None → ObeysCommand rule commands.Audit devices before now c c opens (Err faults.Memory)
   audit_wanted r = record {
     to = opens;
-    obeys = ([], r.told, some_all before.told (λ w. StepsBy Done Wants w.trace [] c.lab opens (Err faults.Memory)) (λ w. record { ends = (refl, refl, refl); sound = λ sound. subst (λ l. IsSound the_texts l) (sym (append-nil w.trace)) sound }));
+    obeys = ([], r.told, record { ends = (refl, refl, refl); sound = in_trace before.told (λ t. IsSound the_texts t → IsSound the_texts (t ++ [])) (reads_sound before.told None) });
     works = λ _. reads_work before now None c opens r works;
     limit = refl;
     opened = as_open None None opens opens devices (λ o has. refl) (same_open opens);
@@ -203,7 +202,7 @@ module _ (rule : RuleNumber) (devices : ℕ) (before now : Seen) (c : Control) (
   pub audit_no_lab : c.lab.lab ≡ None → ObeysCommand rule commands.Audit devices before before c c opens (Ok replies.NoLab)
   audit_no_lab none = audit_answered rule devices before before None c opens works replies.NoLab refl refl (λ h. false_true h) (λ h. false_true h)
       (record { told = with_steps-nil before.told; disk = refl; later = omega arith; failed = tt; stopped = refl })
-      (some_all before.told (λ w. Audits (world_of w.trace) c.lab opens [] (open_by replies.NoLab c.lab opens)) (λ w. lab_missing none (record { nothing = refl; after_is = refl })))
+      (lab_missing none (record { nothing = refl; after_is = refl }))
 
   -- all readings were answered
   pub audit_tells : (report : List AuditLine) → Reads before now None
@@ -211,13 +210,15 @@ module _ (rule : RuleNumber) (devices : ℕ) (before now : Seen) (c : Control) (
       → IfSome before.told (λ w. TellsSwitches (lab_in c.lab.lab) c.lab.experiments (world_of w.trace) report)
       → ObeysCommand rule commands.Audit devices before now c c opens (Ok (replies.Audit report))
   audit_tells report r exact switches = audit_answered rule devices before now None c opens works (replies.Audit report) refl refl (λ h. false_true h) (λ h. false_true h) r
+      (all_told report refl
+      (in_trace before.told (λ t. IsReport (world_of t) c.lab report)
       (if_both before.told (λ w. IsKnown (lab_in c.lab.lab) c.lab.experiments (world_of w.trace) → IsDiff (lab_in c.lab.lab) c.lab.experiments (world_of w.trace) report)
-      (λ w. TellsSwitches (lab_in c.lab.lab) c.lab.experiments (world_of w.trace) report)
-      (λ w. Audits (world_of w.trace) c.lab opens [] (open_by (replies.Audit report) c.lab opens)) (λ w e s. all_told report refl s e refl) exact switches)
+      (λ w. TellsSwitches (lab_in c.lab.lab) c.lab.experiments (world_of w.trace) report) (λ w. IsReport (world_of w.trace) c.lab report) (λ w e s. record { switches = s; exact = e }) exact switches))
+      refl)
 
   -- one was not, or memory was wanting
   pub audit_broken : devices ≤ before.faults.devices → (fault : AuditFault) → Reads before now (unread_in fault) → ObeysCommand rule commands.Audit devices before now c c opens (broken_by fault)
   audit_broken within (broken.Unread name) r = audit_answered rule devices before now (Some name) c opens works (replies.Unread name) refl refl
       (λ h. rose_later devices before.faults.devices now.faults.devices now.faults.devices within r.failed (omega arith)) (λ h. r.failed) r
-      (some_all before.told (λ w. Audits (world_of w.trace) c.lab opens (Unread name ∷ []) (open_by (replies.Unread name) c.lab opens)) (λ w. one_unread name refl refl))
+      (one_unread name refl refl)
   audit_broken within broken.Memory r = audit_wanted rule devices before now None c opens works r

@@ -1,5 +1,5 @@
 -- Want of memory in a command.
-use Rattle.std.proofs.Common.{◌≡◌, ℕ, false, List, None, Result, refl, ap}
+use Rattle.std.proofs.Common.{◌≡◌, ℕ, false, List, None, Result, refl, ap, Option}
 use Rattle.plant.specs.Events.{Event}
 use Rattle.records_model.specs.Labs.{LabState}
 use Rattle.cost_rule.specs.declared.rule.RuleNumber.{RuleNumber}
@@ -18,7 +18,7 @@ use Rattle.lab_core.specs.Sessions.{OpenSwap, shut_by}
 use Rattle.lab_judge.specs.OpenNames.{name_of}
 use Rattle.lab_core.proofs.Obey.{wants_done}
 
-module _ (rule : RuleNumber) (devices : ℕ) (c : Control) (opens : List OpenSwap) (trace own : List Event) (lab : LabState) (to : List OpenSwap) where
+module _ (rule : RuleNumber) (devices : ℕ) (c : Control) (opens : List OpenSwap) (trace : Option (List Event)) (own : List Event) (lab : LabState) (to : List OpenSwap) where
   abbrev Wants : Command → Type 0
   Wants command = wants_of_command rule command devices c opens trace own lab to
 

@@ -13,6 +13,7 @@ use Rattle.lab_core.specs.Controller.{Control, WorksWith}
 use Rattle.lab_core.specs.Sessions.{OpenSwap, WereOpen, blames_now, counted_from}
 use Rattle.lab_judge.specs.Tasks.{tells_end}
 use Rattle.lab_core.specs.Lists.{Listing, Lists, Ground, Past}
+use Rattle.lab_core.specs.Moments.{trace_in}
 use Rattle.lab_core.specs.Obey.{Doing, Wanting}
 
 -- where a list began: what was seen of the plant, the controller with its open swaps, the place, and the count at which its swaps are opened
@@ -38,7 +39,7 @@ pub record HasComeTo {X : Type 0} (l : Listing X) (o : Origin X) (exp : Option (
   pub to : List OpenSwap
   pub own : List Event
   pub told : now.told ≡ with_steps o.before.told own
-  pub past : IfSome o.before.told (λ t. Past l (ground_of o) t.trace o.start o.old.lab o.opens own at new.lab to)
+  pub past : Past l (ground_of o) (trace_in o.before.told) o.start o.old.lab o.opens own at new.lab to
   pub sound : IfSome o.before.told (λ t. IsSound the_texts t.trace → IsSound the_texts (t.trace ++ own))
   pub works : WorksWith now new to
   pub limit : limit_of new.journal ≡ limit_of o.old.journal

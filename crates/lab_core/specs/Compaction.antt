@@ -4,9 +4,10 @@ use Rattle.plant.specs.Disks.{disk}
 use Rattle.plant.specs.Events.{Event}
 use Rattle.plant.specs.Told.{Told, with_steps}
 use Rattle.plant.specs.declared.step.Side.{Side}
+use Rattle.plant.specs.declared.step.Side.TheVariants.{A, B}
 use Rattle.journal_rec.specs.declared.record.Record.{Record}
 use Rattle.journal_model.specs.Appends.{other_side}
-use Rattle.journal_model.specs.Journals.{gate_after}
+use Rattle.journal_model.specs.Journals.{Records, gate_after}
 use Rattle.journal_rec.specs.Packing.{ArePacked}
 use Rattle.records_model.specs.Labs.{LabState, LabOf}
 use Rattle.records_model.specs.Works.{IsSound}
@@ -39,8 +40,13 @@ pub record IsPlaced (before trace : List Event) (length : ℕ) (side : Side) (ep
   pub live : IsLiveAt trace side epoch
   pub kept : (was : Side) (old : ℕ) → IsFoundAt before was old → (side ≡ was) × (epoch ≡ old)
 
--- IT WAS MOVED: the other side is live, with the next epoch, and the journal has only the records of the lab without its past
+-- THE JOURNAL HAS the records of the lab without its past, and no other, as the sides read
+abbrev pub IsPackedAt : List Event → LabState → Type 0
+IsPackedAt trace s = Records (disk A trace).reads (disk B trace).reads (packed_of the_texts s)
+
+-- IT WAS MOVED: the other side is live, with the next epoch, and the journal has exactly the records of the lab without its past
 pub record HasMoved (trace : List Event) (side : Side) (epoch : ℕ) (s : LabState) : Type 0 where
+  pub packed : IsPackedAt trace s
   pub length_is : IsLengthAt trace (packed_length s)
   pub live : IsLiveAt trace (other_side side) (epoch + 1)
 

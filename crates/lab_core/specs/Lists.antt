@@ -6,7 +6,7 @@ use Rattle.script_text.specs.declared.reply.Reply.{Reply}
 use Rattle.script_text.specs.declared.reply.Reply.TheVariants as replies
 use Rattle.lab_judge.specs.Judge.{Task}
 use Rattle.lab_core.specs.LabSteps.{IsDoneBy, Replies, WantsMemory}
-use Rattle.lab_core.specs.Moments.{IsLengthAt}
+use Rattle.lab_core.specs.Moments.{IsLengthBehind}
 use Rattle.lab_core.specs.Sessions.{OpenSwap, Setting, After, open_by, shut_by}
 
 -- WHAT A LIST IS, by the places in it: whether nothing is left there; what is judged of the command that comes next, in a lab and beside open swaps, by the
@@ -31,12 +31,12 @@ last_reply l at None = None
 last_reply l at (Some replies.Stopped) = Some replies.Stopped
 last_reply l at (Some reply) = Some (l.whole (l.behind at reply))
 
-module _ {X : Type 0} (l : Listing X) (base : Ground) (trace : List Event) where
-  -- THE NEXT COMMAND, behind these steps: judged in that lab, by the journal's length there as its sides read
+module _ {X : Type 0} (l : Listing X) (base : Ground) (trace : Option (List Event)) where
+  -- THE NEXT COMMAND, behind these steps: judged in that lab, by the journal's length there
   pub record DoesNext (front : List Event) (at : X) (s : LabState) (opens : List OpenSwap) (steps : List Event) (after : After) : Type 0 where
     pub more : l.is_over at ≡ false
     pub length : ℕ
-    pub length_is : IsLengthAt (trace ++ front) length
+    pub length_is : IsLengthBehind trace front base.limit length
     pub done : IsDoneBy (l.Judges at (set_at base length) s opens) (set_at base length) s opens steps after
 
   -- SOME OF THEM ARE DONE, each answered and with the controller open behind it: the steps, the place, the lab and the open swaps behind them
@@ -56,12 +56,12 @@ module _ {X : Type 0} (l : Listing X) (base : Ground) (trace : List Event) where
 
 -- A COMMAND THAT IS A LIST, by what is judged of the whole: nothing refuses it, and it is done from the first place; or it is refused; or memory is
 -- wanting before anything is done
-pub data DoesList {X : Type 0} (l : Listing X) (JudgedList : Result X Reply → Type 0) (base : Ground) (trace : List Event) (s : LabState) (opens : List OpenSwap) (own : List Event) (after : After) : Type 0 where
+pub data DoesList {X : Type 0} (l : Listing X) (JudgedList : Result X Reply → Type 0) (base : Ground) (trace : Option (List Event)) (s : LabState) (opens : List OpenSwap) (own : List Event) (after : After) : Type 0 where
   refused : (reply : Reply) → JudgedList (Err reply) → Replies s opens reply own after → DoesList l JudgedList base trace s opens own after
   listed : (start : X) → JudgedList (Ok start) → Lists l base trace start s opens own after → DoesList l JudgedList base trace s opens own after
   no_memory : WantsMemory s own after → DoesList l JudgedList base trace s opens own after
 
 -- HOW MEMORY IS WANTING in a list: at a place that it came to, with those open swaps, and nothing of the next command is done; or before the first
-pub data WantsInList {X : Type 0} (l : Listing X) (JudgedList : Result X Reply → Type 0) (base : Ground) (trace : List Event) (s : LabState) (opens : List OpenSwap) (own : List Event) (lab : LabState) (to : List OpenSwap) : Type 0 where
+pub data WantsInList {X : Type 0} (l : Listing X) (JudgedList : Result X Reply → Type 0) (base : Ground) (trace : Option (List Event)) (s : LabState) (opens : List OpenSwap) (own : List Event) (lab : LabState) (to : List OpenSwap) : Type 0 where
   undone : own ≡ [] → lab ≡ s → to ≡ opens → WantsInList l JudgedList base trace s opens own lab to
   between : (start at : X) → JudgedList (Ok start) → Past l base trace start s opens own at lab to → WantsInList l JudgedList base trace s opens own lab to

@@ -1,7 +1,8 @@
 -- The lab of a moment, and the states that are no journal.
-use Rattle.std.specs.Prelude.{◌≡◌, ◌⊎◌, ◌+◌, ◌*◌, ◌<◌, ℕ, count_by, List, take}
+use Rattle.std.specs.Prelude.{◌≡◌, ◌⊎◌, ◌+◌, ◌*◌, ◌<◌, ◌≤◌, ℕ, count_by, List, ◌++◌, take, Option, Some, None, IfSome}
 use Rattle.plant.specs.Disks.{disk, ArePossible}
 use Rattle.plant.specs.Events.{Event}
+use Rattle.plant.specs.Told.{Told}
 use Rattle.plant.specs.declared.step.Side.{Side}
 use Rattle.plant.specs.declared.step.Side.TheVariants.{A, B}
 use Rattle.journal_rec.specs.declared.record.Record.{Record}
@@ -35,6 +36,20 @@ pub record IsLengthAt (trace : List Event) (n : ℕ) : Type 0 where
   pub records : List Record
   pub read : Records (disk A trace).reads (disk B trace).reads records
   pub is : n ≡ journal_length (disk A trace).reads (disk B trace).reads records
+
+-- THE TRACE, where a plant tells it; and with some steps more
+abbrev pub trace_in : Option Told → Option (List Event)
+trace_in None = None
+trace_in (Some told) = Some told.trace
+
+abbrev pub with_more : Option (List Event) → List Event → Option (List Event)
+with_more None steps = None
+with_more (Some trace) steps = Some (trace ++ steps)
+
+-- the journal's length behind these steps, as the sides read there, where the trace is told; it is within the limit
+pub record IsLengthBehind (trace : Option (List Event)) (steps : List Event) (limit n : ℕ) : Type 0 where
+  pub told : IfSome trace (λ t. IsLengthAt (t ++ steps) n)
+  pub within : n ≤ limit
 
 -- the live side, as the sides read, and the epoch in its header
 pub record IsLiveAt (trace : List Event) (side : Side) (epoch : ℕ) : Type 0 where

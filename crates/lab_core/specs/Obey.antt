@@ -1,4 +1,4 @@
--- The state behind a call of `obey`, over a trace.
+-- The state behind a call of `obey`, over every plant.
 use Rattle.std.specs.Prelude.{◌≡◌, ◌↔◌, ◌≤◌, ℕ, Bool, true, false, List, [], ◌∷◌, ◌++◌, not, Option, Some, None, Result, Ok, Err, IfOk, IfSome, IsErrOf, IsTrue}
 use Rattle.lab_base.specs.Counts.{Rose}
 use Rattle.plant.specs.Disks.{ArePossible}
@@ -22,12 +22,12 @@ use Rattle.lab_judge.specs.Judge.{Task, Recover}
 use Rattle.lab_core.specs.Commands.{DoesCommand, ground_by}
 use Rattle.lab_core.specs.LabSteps.{IsDoneBy, JudgedBeside}
 use Rattle.lab_core.specs.Lists.{WantsInList}
-use Rattle.lab_core.specs.Moments.{StandForLab}
+use Rattle.lab_core.specs.Moments.{StandForLab, trace_in}
 use Rattle.lab_core.specs.PlayList.{JudgedPlay, events_in_turn}
 use Rattle.lab_core.specs.Recovery.{SettlesFirst}
 use Rattle.lab_judge.specs.Serving.{JudgedBatch}
 use Rattle.lab_core.specs.BatchList.{runs_in_turn}
-use Rattle.lab_core.specs.Sessions.{OpenSwap, Session, Setting, After, AreOpenedBy, blames_now, counted_from, names_of, open_by, shut_by}
+use Rattle.lab_core.specs.Sessions.{OpenSwap, Setting, After, AreOpenedBy, blames_now, counted_from, names_of, open_by, shut_by}
 use Rattle.lab_judge.specs.OpenNames.{name_of}
 
 -- WHERE A COMMAND BEGINS: what its journal is judged by, the count of device faults at which a swap of it is opened, the lab, and the open swaps
@@ -39,23 +39,26 @@ pub record Start : Type 0 where
 abbrev pub start_of : ℕ → Control → List OpenSwap → Start
 start_of devices c opens = record { set = record { length = length_of c.journal; limit = limit_of c.journal; devices = devices }; lab = c.lab; opens = opens }
 
--- WHAT WAS DONE, over the trace before it, by its own steps and by what it leaves
+-- WHAT WAS DONE, over the trace before it, where that is told, by its own steps and by what it leaves
 abbrev pub Doing : Type 1
-Doing = List Event → List Event → After → Type 0
+Doing = Option (List Event) → List Event → After → Type 0
 
--- HOW MEMORY WAS WANTING, over the trace before it, by its own steps, the lab and the swaps that stay open
+-- HOW MEMORY WAS WANTING, over the trace before it, where that is told, by its own steps, the lab and the swaps that stay open
 abbrev pub Wanting : Type 1
-Wanting = List Event → List Event → LabState → List OpenSwap → Type 0
+Wanting = Option (List Event) → List Event → LabState → List OpenSwap → Type 0
 
--- THE CONTROLLER IS CLOSED: it is so by these steps, whatever image a stopped plant is started again with; and over a sound trace each possible image
--- stands for a lab that the command leads to by them
-pub record Shuts (Done : Doing) (trace own : List Event) (reply : Reply) (behind : List ℕ → List ℕ → List Event) : Type 0 where
+-- each image that is possible behind these steps stands for a lab that the command leads to by them
+abbrev pub AllShut : Doing → Option (List Event) → List Event → Reply → (List ℕ → List ℕ → List Event) → List Event → Type 0
+AllShut Done trace own reply behind t = (a b : List ℕ) → ArePossible (t ++ own) a b → (lab : LabState) × StandForLab a b lab × Done trace (own ++ behind a b) (shut_by (Some reply) lab)
+
+-- THE CONTROLLER IS CLOSED: it is so by these steps, whatever image a stopped plant is started again with; and over a sound trace all images are of them
+pub record Shuts (Done : Doing) (trace : Option (List Event)) (own : List Event) (reply : Reply) (behind : List ℕ → List ℕ → List Event) : Type 0 where
   pub lab : LabState
   pub done : (a b : List ℕ) → Done trace (own ++ behind a b) (shut_by (Some reply) lab)
-  pub images : IsSound the_texts trace → (a b : List ℕ) → ArePossible (trace ++ own) a b → (lab : LabState) × StandForLab a b lab × Done trace (own ++ behind a b) (shut_by (Some reply) lab)
+  pub images : IfSome trace (λ t. IsSound the_texts t → AllShut Done trace own reply behind t)
 
 -- IT GOES ON with these open swaps, or a reply closes it
-abbrev pub AnswersBy : Doing → List Event → List Event → Reply → LabState → List OpenSwap → Bool → Type 0
+abbrev pub AnswersBy : Doing → Option (List Event) → List Event → Reply → LabState → List OpenSwap → Bool → Type 0
 AnswersBy Done trace own reply lab to false = Done trace own (open_by reply lab to)
 AnswersBy Done trace own reply lab to true = Shuts Done trace own reply (λ a b. [])
 
@@ -66,43 +69,25 @@ pub data WantsIn (IsJudged : Result Task Reply → Type 0) (start : Start) (own 
   between : IsJudged (Ok Recover) → SettlesFirst start.lab (names_of start.opens) own lab → to ≡ start.opens → WantsIn IsJudged start own lab to
 
 -- BY ITS ANSWER: a reply; or the plant stopped, and is started again; or memory was wanting
-abbrev pub EndsBy : Doing → Wanting → List Event → List Event → LabState → List OpenSwap → Result Reply CoreFault → Type 0
+abbrev pub EndsBy : Doing → Wanting → Option (List Event) → List Event → LabState → List OpenSwap → Result Reply CoreFault → Type 0
 EndsBy Done Wants trace own lab to (Ok reply) = AnswersBy Done trace own reply lab to (closes reply)
 EndsBy Done Wants trace own lab to (Err faults.Stopped) = Shuts Done trace own replies.Stopped (λ a b. Restarted a b ∷ [])
 EndsBy Done Wants trace own lab to (Err faults.Memory) = Wants trace own lab to
 
--- WHAT A CALL ADDED to what a plant tells; a sound trace stays sound
-pub record StepsBy (Done : Doing) (Wants : Wanting) (trace own : List Event) (lab : LabState) (to : List OpenSwap) (result : Result Reply CoreFault) : Type 0 where
+-- WHAT A CALL DID by these steps, over every plant; and where its past is told, a sound trace stays sound
+pub record StepsBy (Done : Doing) (Wants : Wanting) (trace : Option (List Event)) (own : List Event) (lab : LabState) (to : List OpenSwap) (result : Result Reply CoreFault) : Type 0 where
   pub ends : EndsBy Done Wants trace own lab to result
-  pub sound : IsSound the_texts trace → IsSound the_texts (trace ++ own)
+  pub sound : IfSome trace (λ t. IsSound the_texts t → IsSound the_texts (t ++ own))
 
+-- there are such steps, and a plant that tells its past tells them
 abbrev pub ToldBy : Doing → Wanting → Seen → Seen → LabState → List OpenSwap → Result Reply CoreFault → Type 0
-ToldBy Done Wants before now lab to result = (own : List Event) × (now.told ≡ with_steps before.told own) × IfSome before.told (λ t. StepsBy Done Wants t.trace own lab to result)
-
--- THE SAME of what was judged, whatever the trace before it: it is done, with that reply
-abbrev pub IsDone : (Result Task Reply → Type 0) → Start → List Event → Option Reply → LabState → Session → Type 0
-IsDone IsJudged start own reply lab session = IsDoneBy IsJudged start.set start.lab start.opens own (record { reply = reply; lab = lab; session = session })
+ToldBy Done Wants before now lab to result = (own : List Event) × (now.told ≡ with_steps before.told own) × StepsBy Done Wants (trace_in before.told) own lab to result
 
 abbrev pub done_as : (Result Task Reply → Type 0) → Start → Doing
 done_as IsJudged start = λ trace own after. IsDoneBy IsJudged start.set start.lab start.opens own after
 
 abbrev pub wants_as : (Result Task Reply → Type 0) → Start → Wanting
 wants_as IsJudged start = λ trace own lab to. WantsIn IsJudged start own lab to
-
-abbrev pub Leaves : List Event → (Result Task Reply → Type 0) → Start → List Event → Reply → (List ℕ → List ℕ → List Event) → Type 0
-Leaves trace IsJudged start own reply behind = Shuts (done_as IsJudged start) trace own reply behind
-
-abbrev pub Answers : List Event → (Result Task Reply → Type 0) → Start → List Event → Reply → LabState → List OpenSwap → Bool → Type 0
-Answers trace IsJudged start own reply lab to closing = AnswersBy (done_as IsJudged start) trace own reply lab to closing
-
-abbrev pub ObeyEnds : List Event → (Result Task Reply → Type 0) → Start → List Event → LabState → List OpenSwap → Result Reply CoreFault → Type 0
-ObeyEnds trace IsJudged start own lab to result = EndsBy (done_as IsJudged start) (wants_as IsJudged start) trace own lab to result
-
-abbrev pub ObeySteps : List Event → (Result Task Reply → Type 0) → Start → List Event → LabState → List OpenSwap → Result Reply CoreFault → Type 0
-ObeySteps trace IsJudged start own lab to result = StepsBy (done_as IsJudged start) (wants_as IsJudged start) trace own lab to result
-
-abbrev pub ObeyTold : Seen → Seen → (Result Task Reply → Type 0) → Start → LabState → List OpenSwap → Result Reply CoreFault → Type 0
-ObeyTold before now IsJudged start lab to result = ToldBy (done_as IsJudged start) (wants_as IsJudged start) before now lab to result
 
 -- it is at work afterwards, also where memory was wanting
 abbrev pub stays_at_work : Result Reply CoreFault → Bool

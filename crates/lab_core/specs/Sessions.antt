@@ -1,5 +1,5 @@
 -- Whether a controller is open, and how a command leaves it.
-use Rattle.std.specs.Prelude.{◌≡◌, ◌⊎◌, ◌≤◌, ℕ, Bool, true, false, List, [], ◌∷◌, length, map, Option, Some, None, if◌then◌else◌}
+use Rattle.std.specs.Prelude.{◌≡◌, ◌⊎◌, ◌≤◌, ℕ, Bool, true, false, List, [], ◌∷◌, map, Option, Some, None, if◌then◌else◌}
 use Rattle.std.specs.Str.{bytes_eq}
 use Rattle.lab_base.specs.Lists.{Has}
 use Rattle.lab_base.specs.Counts.{Rose}
@@ -25,10 +25,6 @@ name_in o = o.running.swap.name
 pub data Session : Type 0 where
   Closed : Session
   Open : (opens : List OpenSwap) → Session
-
--- open, with no open swap
-abbrev pub open_alone : Session
-open_alone = Open []
 
 -- the open swap of a name
 abbrev pub open_at : List ℕ → List OpenSwap → Option OpenSwap
@@ -87,16 +83,6 @@ HasRisenBy leg devices count = Unit {0}
 pub record IsSince (count : ℕ) (o : OpenSwap) : Type 0 where
   pub later : o.devices ≤ count
   pub caused : HasRisenBy o.running.leg o.devices count
-
--- SESSIONS ARE HANDED ON: as many open swaps, and the same by each name
-pub record AreSame (old new : List OpenSwap) : Type 0 where
-  pub number : length new ≡ length old
-  pub each : (name : List ℕ) → open_at name new ≡ open_at name old
-
-abbrev pub HandsOn : Session → Session → Type 0
-HandsOn Closed Closed = Unit {0}
-HandsOn (Open old) (Open new) = AreSame old new
-HandsOn old new = ⊥
 
 -- WHAT HOLDS OVER A WHOLE RUN: whether the plant takes drills, and the cost rule of the searches
 pub record Terms : Type 0 where

@@ -212,6 +212,8 @@ impl Controller {
     /// those are planned on the plant. Searches count costs by the rule. After a reply that closes, and after `Stopped`, the
     /// controller is of no use any more. Failures of devices are counted from the moment or from any before it, such as a mark
     /// that an opening lies behind.
+    /// `Stopped` is told exactly where the plant is stopped then, if it ran before the call: a command that sends nothing doesn't meet
+    /// an earlier stop.
     ///
     /// A command that is neither a list of commands nor an audit is judged, and its task done.
     pub fn obey<P: Tables>(

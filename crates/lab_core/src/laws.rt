@@ -1,5 +1,5 @@
 // Laws of the definitions.
-ghost use Rattle.std.specs.Prelude.{◌≡◌, ◌≢◌, ◌⊎◌, ◌↔◌, ◌≤◌, ℕ, Bool, false, true, is_some, count_by, List, [], ◌∷◌, ◌++◌, length, Some, None, Ok, Err, Result};
+ghost use Rattle.std.specs.Prelude.{◌≡◌, ◌≢◌, ◌⊎◌, ◌↔◌, ◌≤◌, ℕ, Bool, false, true, is_some, count_by, List, [], ◌∷◌, ◌++◌, length, Option, Some, None, Ok, Err, Result};
 ghost use Rattle.plant.specs.Disks.{ArePossible};
 ghost use Rattle.plant.specs.Events.{Event, Unread};
 ghost use Rattle.plant.specs.Worlds.{world_of};
@@ -57,7 +57,8 @@ use swap_mgr::MAX_OPEN;
 pub fn lab_steps()
     ensures judged_once { (rule : RuleNumber) (s : LabState) (busy : Bool) (count : ℕ) (command : Command) (a b : Result Task Reply)
         → is_searched command ≡ false → Judged rule s busy count command a → Judged rule s busy count command b → a ≡ b }
-    ensures by_one { (terms : Terms) (at : List Event) (set : Setting) (s : LabState) (session : Session) (command : Command) (opening own : List Event)
+    ensures by_one { (terms : Terms) (at : Option (List Event)) (set : Setting) (s : LabState) (session : Session) (command : Command)
+        (opening own : List Event)
         (after : After)
         → is_unjudged command ≡ false → LabStep terms at set s session command opening own after
         → (judgement : Result Task Reply) × LabStepBy judgement terms set s session command opening own after }
@@ -78,33 +79,37 @@ pub fn lab_steps()
         (reply : Reply) → drill_of command ≡ None → after.reply ≡ Some reply → LabStepBy (Ok (Swap exp way)) terms set s session command opening own after
         → TellsBroken reply ⊎ ((mid : LabState) × BeginsAt session s opening mid
         × ((move : Move) → Says the_texts mid (Begin exp way) move → TellsLab mid exp move reply after.lab)) }
-    ensures others { (terms : Terms) (at : List Event) (set : Setting) (s : LabState) (session : Session) (command : Command) (opening own : List Event)
+    ensures others { (terms : Terms) (at : Option (List Event)) (set : Setting) (s : LabState) (session : Session) (command : Command)
+        (opening own : List Event)
         (after : After) (name : List ℕ)
         → is_some s.lab ≡ true → is_about command name ≡ false → (settles session command name ≡ true → IsAtRest s name)
         → LabStep terms at set s session command opening own after
         → find name after.lab.experiments ≡ find name s.experiments }
-    ensures drills { (terms : Terms) (at : List Event) (set : Setting) (s : LabState) (session : Session) (command : Command) (opening own : List Event)
+    ensures drills { (terms : Terms) (at : Option (List Event)) (set : Setting) (s : LabState) (session : Session) (command : Command)
+        (opening own : List Event)
         (after : After)
         → is_some (drill_of command) ≡ true → LabStep terms at set s session command opening own after → (opening ≡ []) × (own ≡ []) × (after.lab ≡ s) }
-    ensures stops { (terms : Terms) (at : List Event) (set : Setting) (s : LabState) (session : Session) (command : Command) (opening own : List Event)
+    ensures stops { (terms : Terms) (at : Option (List Event)) (set : Setting) (s : LabState) (session : Session) (command : Command) (opening own : List Event)
         (after : After) (reply : Reply)
         → LabStep terms at set s session command opening own after → after.reply ≡ Some reply → has_restart (opening ++ own) ≡ is_stopped reply }
-    ensures served { (terms : Terms) (at : List Event) (set : Setting) (s : LabState) (session : Session) (moment lines : ℕ) (text : List ℕ)
+    ensures served { (terms : Terms) (at : Option (List Event)) (set : Setting) (s : LabState) (session : Session) (moment lines : ℕ) (text : List ℕ)
         (opening own : List Event) (after : After) (served : Served)
         → LabStep terms at set s session (Batch moment lines text) opening own after → after.reply ≡ Some (ServedReply served)
         → BatchTells (there_in after.lab) text served }
-    ensures played { (terms : Terms) (at : List Event) (set : Setting) (s : LabState) (session : Session) (exp name : List ℕ) (from until lines count : ℕ)
+    ensures played { (terms : Terms) (at : Option (List Event)) (set : Setting) (s : LabState) (session : Session) (exp name : List ℕ)
+        (from until lines count : ℕ)
         (text last : List ℕ) (closing blaming : Bool) (opening own : List Event) (after : After)
         → LabStep terms at set s session (Play exp from until lines text) opening own after → after.reply ≡ Some (Played name count last closing blaming)
         → PlayTells (there_in after.lab) exp (Played name count last closing blaming) }
-    ensures idle { (terms : Terms) (at : List Event) (set : Setting) (s : LabState) (session : Session) (command : Command) (opening own : List Event)
+    ensures idle { (terms : Terms) (at : Option (List Event)) (set : Setting) (s : LabState) (session : Session) (command : Command) (opening own : List Event)
         (after : After) (reply : Reply)
         → LabStep terms at set s session command opening own after → after.reply ≡ Some reply → is_of_steps reply ≡ false → own ≡ [] }
-    ensures unread { (terms : Terms) (at : List Event) (set : Setting) (s : LabState) (session : Session) (command : Command) (opening own : List Event)
+    ensures unread { (terms : Terms) (at : Option (List Event)) (set : Setting) (s : LabState) (session : Session) (command : Command)
+        (opening own : List Event)
         (after : After) (reply : Reply) (name : List ℕ)
         → LabStep terms at set s session command opening own after → after.reply ≡ Some reply
         → Has (opening ++ own) (Unread name) ↔ (reply ≡ NotRead name) }
-    ensures alone { (terms : Terms) (at : List Event) (set : Setting) (s : LabState) (session : Session) (command : Command) (opening own : List Event)
+    ensures alone { (terms : Terms) (at : Option (List Event)) (set : Setting) (s : LabState) (session : Session) (command : Command) (opening own : List Event)
         (after : After) (name : List ℕ)
         → LabStep terms at set s session command opening own after → after.reply ≡ Some (NotRead name) → (command ≡ Audit) × (own ≡ Unread name ∷ []) }
 {}
@@ -117,17 +122,18 @@ pub fn lab_steps()
 /// Both leave the world of each other experiment as it was, over any trace and however they end: each row that it wants, and each node that it
 /// claims.
 pub fn open_swaps()
-    ensures others { (terms : Terms) (at : List Event) (set : Setting) (s : LabState) (opens to : List OpenSwap) (command : Command) (opening own : List Event)
+    ensures others { (terms : Terms) (at : Option (List Event)) (set : Setting) (s : LabState) (opens to : List OpenSwap) (command : Command)
+        (opening own : List Event)
         (after : After) (name : List ℕ)
         → is_about command name ≡ false → LabStep terms at set s (Open opens) command opening own after → after.session ≡ Open to
         → open_at name to ≡ open_at name opens }
-    ensures differ { (terms : Terms) (at : List Event) (set : Setting) (s : LabState) (session : Session) (to : List OpenSwap) (command : Command)
+    ensures differ { (terms : Terms) (at : Option (List Event)) (set : Setting) (s : LabState) (session : Session) (to : List OpenSwap) (command : Command)
         (opening own : List Event) (after : After)
         → AllDiffer (busy_of session) → LabStep terms at set s session command opening own after → after.session ≡ Open to → AllDiffer (names_of to) }
-    ensures few { (terms : Terms) (at : List Event) (set : Setting) (s : LabState) (session : Session) (to : List OpenSwap) (command : Command)
+    ensures few { (terms : Terms) (at : Option (List Event)) (set : Setting) (s : LabState) (session : Session) (to : List OpenSwap) (command : Command)
         (opening own : List Event) (after : After)
         → length (opens_of session) ≤ MAX_OPEN → LabStep terms at set s session command opening own after → after.session ≡ Open to → length to ≤ MAX_OPEN }
-    ensures moves { (terms : Terms) (at : List Event) (set : Setting) (s : LabState) (session : Session) (to : List OpenSwap) (command : Command)
+    ensures moves { (terms : Terms) (at : Option (List Event)) (set : Setting) (s : LabState) (session : Session) (to : List OpenSwap) (command : Command)
         (opening own : List Event) (after : After)
         → Sane s → AllDiffer (busy_of session) → AllMove (opens_of session) s → LabStep terms at set s session command opening own after
         → after.session ≡ Open to → AllMove to after.lab }
@@ -146,7 +152,8 @@ pub fn open_swaps()
     ensures turn_tells { (terms : Terms) (set : Setting) (s : LabState) (opens : List OpenSwap) (command : Command) (opening own : List Event) (after : After)
         (exp : List ℕ) (reply : Reply)
         → LabStepBy (Ok (Turn exp)) terms set s (Open opens) command opening own after → after.reply ≡ Some reply → TellsEnd s exp reply after.lab }
-    ensures world { (terms : Terms) (at : List Event) (set : Setting) (s : LabState) (opens : List OpenSwap) (command : Command) (opening own : List Event)
+    ensures world { (terms : Terms) (at : Option (List Event)) (set : Setting) (s : LabState) (opens : List OpenSwap) (command : Command)
+        (opening own : List Event)
         (after : After) (trace : List Event) (exp : List ℕ) (e : Experiment)
         → Sane s → IsTurnOf exp command → Has s.experiments e → e.name ≢ exp → LabStep terms at set s (Open opens) command opening own after
         → SameFor (lab_in s.lab) e (world_of trace) (world_of (trace ++ own)) }
@@ -162,7 +169,7 @@ pub fn recoveries()
         → (e : Experiment) → Has mid.experiments e → is_moving e ≡ false }
     ensures beside { (s after : LabState) (swaps : List Swapped) (outcomes : List Outcome) (steps : List Event) (name : List ℕ)
         → Settles s swaps outcomes steps after → EndedIn swaps outcomes name → IsAtRest after name }
-    ensures recovered { (terms : Terms) (at : List Event) (set : Setting) (s : LabState) (session : Session) (opening own : List Event) (after : After)
+    ensures recovered { (terms : Terms) (at : Option (List Event)) (set : Setting) (s : LabState) (session : Session) (opening own : List Event) (after : After)
         (done : ℕ)
         → Sane s → LabStep terms at set s session Recover opening own after → after.reply ≡ Some (Recovered done 0)
         → (e : Experiment) → Has after.lab.experiments e → is_moving e ≡ true → is_busy (busy_of session) e.name ≡ true }
@@ -173,23 +180,26 @@ pub fn recoveries()
 /// Where it is feasible it goes in, unless the reply tells what hindered it. An open swap of its own can't, since the experiment of one moves. One
 /// that is answered as in is in by the mapping of that solution, at once or at the end of the swap that begins.
 pub fn solutions()
-    ensures only { (terms : Terms) (at : List Event) (set : Setting) (s : LabState) (session : Session) (only_begin : Bool) (exp text : List ℕ) (lines : ℕ)
+    ensures only { (terms : Terms) (at : Option (List Event)) (set : Setting) (s : LabState) (session : Session) (only_begin : Bool) (exp text : List ℕ)
+        (lines : ℕ)
         (opening own : List Event) (after : After)
         → LabStep terms at set s session (SwapinWith only_begin exp lines text) opening own after → after.reply ≡ Some (taken_reply only_begin exp)
         → (mid : LabState) × BeginsAt session s opening mid × IsFeasibleFor mid exp text }
-    ensures unless { (terms : Terms) (at : List Event) (set : Setting) (s : LabState) (session : Session) (only_begin : Bool) (exp text : List ℕ) (lines : ℕ)
+    ensures unless { (terms : Terms) (at : Option (List Event)) (set : Setting) (s : LabState) (session : Session) (only_begin : Bool) (exp text : List ℕ)
+        (lines : ℕ)
         (opening own : List Event) (after : After) (reply : Reply)
         → LabStep terms at set s session (SwapinWith only_begin exp lines text) opening own after → AllMove (opens_of session) s → after.reply ≡ Some reply
         → TellsBroken reply ⊎ ((mid : LabState) × BeginsAt session s opening mid
         × (IsFeasibleFor mid exp text → (reply ≡ taken_reply only_begin exp) ⊎ Hinders reply)) }
-    ensures inside { (terms : Terms) (at : List Event) (set : Setting) (s : LabState) (session : Session) (exp text : List ℕ) (lines : ℕ)
+    ensures inside { (terms : Terms) (at : Option (List Event)) (set : Setting) (s : LabState) (session : Session) (exp text : List ℕ) (lines : ℕ)
         (opening own : List Event) (after : After)
         → LabStep terms at set s session (SwapinWith false exp lines text) opening own after → after.reply ≡ Some (In exp) → IsInBy after.lab exp text }
-    ensures begins { (terms : Terms) (at : List Event) (set : Setting) (s : LabState) (session : Session) (to : List OpenSwap) (exp text : List ℕ) (lines : ℕ)
+    ensures begins { (terms : Terms) (at : Option (List Event)) (set : Setting) (s : LabState) (session : Session) (to : List OpenSwap) (exp text : List ℕ)
+        (lines : ℕ)
         (opening own : List Event) (after : After)
         → LabStep terms at set s session (SwapinWith true exp lines text) opening own after → after.reply ≡ Some (More exp) → after.session ≡ Open to
         → GoesIn to after.lab exp text }
-    ensures ends { (terms : Terms) (at : List Event) (set : Setting) (s : LabState) (opens : List OpenSwap) (command : Command) (exp text : List ℕ)
+    ensures ends { (terms : Terms) (at : Option (List Event)) (set : Setting) (s : LabState) (opens : List OpenSwap) (command : Command) (exp text : List ℕ)
         (opening own : List Event) (after : After)
         → AllMove opens s → GoesIn opens s exp text → IsTurnOf exp command → LabStep terms at set s (Open opens) command opening own after
         → after.reply ≡ Some (In exp) → IsInBy after.lab exp text }
@@ -204,13 +214,13 @@ pub fn labs_are_kept()
 
 /// A batch keeps its promises. Behind one that is served, with no experiment stuck by it, all promises fit at each moment of each of its runs that are
 /// in, on what is left then: the nodes that no experiment claims, and those of its own runs that have ended.
-/// So a later run of a batch breaks no promise that an earlier one was tested by. What a search finds is shaped for the lab and the wiring.
+/// So a later run of a batch breaks no promise that an earlier one was tested by. A mapping that a search finds is shaped for the lab and the wiring.
 pub fn promises()
-    ensures served { (rule : RuleNumber) (moment : ℕ) (text : List ℕ) (trace : List Event) (set : Setting) (s : LabState) (opens to : List OpenSwap)
+    ensures served { (rule : RuleNumber) (moment : ℕ) (text : List ℕ) (trace : Option (List Event)) (set : Setting) (s : LabState) (opens to : List OpenSwap)
         (own : List Event) (after : After) (served : Served)
         → Sane s → Serves rule moment text trace set opens s own after → after.reply ≡ Some (ServedReply served) → after.session ≡ Open to
         → KeepsPromises moment text served after.lab }
-    ensures part { (rule : RuleNumber) (moment : ℕ) (text : List ℕ) (base : Ground) (trace : List Event) (s u : LabState) (opens to : List OpenSwap)
+    ensures part { (rule : RuleNumber) (moment : ℕ) (text : List ℕ) (base : Ground) (trace : Option (List Event)) (s u : LabState) (opens to : List OpenSwap)
         (start at : Serving) (own : List Event)
         → Sane s → JudgedBatch s text (Ok start) → Past (runs_in_turn rule moment) base trace start s opens own at u to → some_stuck at.told ≡ false
         → AreKept u moment at.promises at.ends }

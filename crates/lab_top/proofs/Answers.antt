@@ -46,10 +46,10 @@ use Rattle.lab_top.specs.declared.status.Status.{Status}
 use Rattle.lab_top.proofs.RunLaws.{at_rest, behind, caused_at, done, left_open, piece, pieces_keep, pieces_of, told_of, traces_join}
 
 -- what is in doesn't move, and what is out doesn't
-abbrev Rests : (Phase → Bool) → Type 0
+abbrev pub Rests : (Phase → Bool) → Type 0
 Rests is = (e : Experiment) → is e.phase ≡ true → is_moving e ≡ false
 
-in_rests : Rests is_in
+pub in_rests : Rests is_in
 in_rests e so = by e.phase refl so
   where
     by : (phase : Phase) → e.phase ≡ phase → is_in phase ≡ true → is_moving e ≡ false
@@ -57,7 +57,7 @@ in_rests e so = by e.phase refl so
     by (phases.In mapping tags) same so = ap (λ p. is_moving (in_phase e p)) same
     by (phases.Moving old new) same so = absurd (cc so)
 
-out_rests : Rests is_out
+pub out_rests : Rests is_out
 out_rests e so = by e.phase refl so
   where
     by : (phase : Phase) → e.phase ≡ phase → is_out phase ≡ true → is_moving e ≡ false
@@ -82,7 +82,7 @@ module _ (terms : Terms) (choices : Option Choices) (old new : Outside) (status 
   place : TellsPlace reply last
   place =
       let l = (done terms choices old new status before (middle ++ after) b t r told sound).leads in
-      all_place terms trace _ l.first b.piece.from b.piece.opening (b.piece.own ++ l.steps.behind) _ b.piece.command reply (told_of terms trace b.piece l.first l.last l.steps reply replied).0 l.steps.step
+      all_place terms (Some trace) _ l.first b.piece.from b.piece.opening (b.piece.own ++ l.steps.behind) _ b.piece.command reply (told_of terms trace b.piece l.first l.last l.steps reply replied).0 l.steps.step
 
   -- it is no reply to a drill
   no_drill : is_of_drill reply ≡ false → drill_of b.piece.command ≡ None
@@ -132,9 +132,9 @@ module _ (terms : Terms) (choices : Option Choices) (old new : Outside) (status 
       let own = b.piece.own ++ l.steps.behind in
       let set : Setting = record { length = l.steps.length; limit = 2 ^ 32; devices = b.piece.faults.devices } in
       let end : After = record { reply = l.steps.told; lab = l.last; session = l.steps.session } in
-      let step : LabStep terms trace set l.first b.piece.from (Batch moment lines text) b.piece.opening own end
-      = subst (λ (c : Command). LabStep terms trace set l.first b.piece.from c b.piece.opening own end) asks l.steps.step in
-      let tells = batch_tells terms trace set l.first b.piece.from moment lines text b.piece.opening own end served ((told_of terms trace b.piece l.first l.last l.steps reply replied).0 ∙ ap (λ x. Some x) is) step in
+      let step : LabStep terms (Some trace) set l.first b.piece.from (Batch moment lines text) b.piece.opening own end
+      = subst (λ (c : Command). LabStep terms (Some trace) set l.first b.piece.from c b.piece.opening own end) asks l.steps.step in
+      let tells = batch_tells terms (Some trace) set l.first b.piece.from moment lines text b.piece.opening own end served ((told_of terms trace b.piece l.first l.last l.steps reply replied).0 ∙ ap (λ x. Some x) is) step in
       let inner : is_of_drill reply ≡ false = ap is_of_drill is in
       let never : may_shut (Some reply) ≡ false = ap (λ x. may_shut (Some x)) is ∙ sym (ap closes is) ∙ mild in
       batch_so (there_in last) (λ is exp. AreOthers exp middle → AreAll is (trace_after t.trace (before ++ b ∷ middle)) exp)
@@ -148,9 +148,9 @@ module _ (terms : Terms) (choices : Option Choices) (old new : Outside) (status 
       let own = b.piece.own ++ l.steps.behind in
       let set : Setting = record { length = l.steps.length; limit = 2 ^ 32; devices = b.piece.faults.devices } in
       let end : After = record { reply = l.steps.told; lab = l.last; session = l.steps.session } in
-      let step : LabStep terms trace set l.first b.piece.from (Play exp from until lines text) b.piece.opening own end
-      = subst (λ (c : Command). LabStep terms trace set l.first b.piece.from c b.piece.opening own end) asks l.steps.step in
-      let tells = play_tells terms trace set l.first b.piece.from exp name from until lines count text ended closing blaming b.piece.opening own end ((told_of terms trace b.piece l.first l.last l.steps reply replied).0 ∙ ap (λ x. Some x) is) step in
+      let step : LabStep terms (Some trace) set l.first b.piece.from (Play exp from until lines text) b.piece.opening own end
+      = subst (λ (c : Command). LabStep terms (Some trace) set l.first b.piece.from c b.piece.opening own end) asks l.steps.step in
+      let tells = play_tells terms (Some trace) set l.first b.piece.from exp name from until lines count text ended closing blaming b.piece.opening own end ((told_of terms trace b.piece l.first l.last l.steps reply replied).0 ∙ ap (λ x. Some x) is) step in
       let inner : is_of_drill reply ≡ false = ap is_of_drill is in
       let never : may_shut (Some reply) ≡ false = ap (λ x. may_shut (Some x)) is ∙ mild in
       play_so (there_in last) (λ is exp. AreOthers exp middle → AreAll is (trace_after t.trace (before ++ b ∷ middle)) exp)
@@ -165,8 +165,8 @@ inside_told terms choices old new status before after b t r told sound exp text 
     let own = b.piece.own ++ l.steps.behind in
     let set : Setting = record { length = l.steps.length; limit = 2 ^ 32; devices = b.piece.faults.devices } in
     let ends : After = record { reply = l.steps.told; lab = l.last; session = l.steps.session } in
-    let step : LabStep terms (trace_after t.trace before) set l.first b.piece.from (SwapinWith false exp lines text) b.piece.opening own ends
-    = subst (λ (c : Command). LabStep terms (trace_after t.trace before) set l.first b.piece.from c b.piece.opening own ends) asks l.steps.step in (
+    let step : LabStep terms (Some (trace_after t.trace before)) set l.first b.piece.from (SwapinWith false exp lines text) b.piece.opening own ends
+    = subst (λ (c : Command). LabStep terms (Some (trace_after t.trace before)) set l.first b.piece.from c b.piece.opening own ends) asks l.steps.step in (
       l.last,
       subst (λ x. AllStandFor x l.last) (sym (trace-push t.trace before b)) (all_stand terms choices old new status before [] after b t r told sound (replies.In exp) replied refl refl),
       in_by terms set l.first b.piece.from exp text lines b.piece.opening own ends step (told_of terms (trace_after t.trace before) b.piece l.first l.last l.steps (replies.In exp) replied).0,

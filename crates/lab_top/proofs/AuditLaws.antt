@@ -5,7 +5,7 @@ use Rattle.lab_base.specs.Counts.{Rose}
 use Rattle.plant.specs.Disks.{ArePossible, disk}
 use Rattle.plant.specs.Events.{Event, Unread}
 use Rattle.plant.specs.Told.{Told}
-use Rattle.plant.specs.Worlds.{World, world_of}
+use Rattle.plant.specs.Worlds.{world_of}
 use Rattle.plant.specs.declared.step.Side.TheVariants.{A, B}
 use Rattle.plant.proofs.Traces.{unread_disk}
 use Rattle.plant.proofs.Images.{durable_image}
@@ -21,7 +21,7 @@ use Rattle.script_text.specs.declared.command.Command.TheVariants as commands
 use Rattle.script_text.specs.declared.reply.AuditLine.{AuditLine}
 use Rattle.script_text.specs.declared.reply.Reply.{Reply}
 use Rattle.script_text.specs.declared.reply.Reply.TheVariants as replies
-use Rattle.lab_core.specs.Auditing.{Audits, no_lab, told, unread, no_memory}
+use Rattle.lab_core.specs.Auditing.{Audits, no_lab, told, unread, no_memory, IsReport}
 use Rattle.lab_core.specs.Breaks.{Breaks, stopped, failed, unanswered}
 use Rattle.lab_core.specs.Commands.{LabStep}
 use Rattle.lab_core.specs.LabSteps.{opened, not_opened}
@@ -32,7 +32,7 @@ use Rattle.lab_core.specs.Tells.{opens_of}
 use Rattle.lab_core.proofs.Audited.{kept}
 use Rattle.lab_core.proofs.Said.{as_said}
 use Rattle.lab_words.specs.Words.{Choices}
-use Rattle.lab_top.specs.Reports.{ChangesNothing, IsReport, TellsDifference}
+use Rattle.lab_top.specs.Reports.{ChangesNothing, TellsDifference}
 use Rattle.lab_top.specs.Pieces.{Begun, ImagesAfter, IsDone, IsPiece, Leads, Piece, StepsFrom, blames_now_if, is_closed, leaves_one, may_shut, steps_of, trace_after}
 use Rattle.lab_top.specs.Ran.{Outside, Ran}
 use Rattle.lab_top.specs.declared.status.Status.{Status}
@@ -46,28 +46,28 @@ broke_so events o reply (failed once missed is) told_it = inr (let same : Some r
 broke_so events o reply (unanswered is) told_it = absurd (cc (is, told_it))
 
 -- ONE AUDIT
-module _ (w : World) (s : LabState) (opens : List OpenSwap) (own : List Event) (after : After) where
+module _ (trace : List Event) (s : LabState) (opens : List OpenSwap) (own : List Event) (after : After) where
   -- the lines that it told are a report
-  tells : (lines : List AuditLine) → after.reply ≡ Some (replies.Audit lines) → Audits w s opens own after → IsReport w s lines × (own ≡ [])
+  tells : (lines : List AuditLine) → after.reply ≡ Some (replies.Audit lines) → Audits (Some trace) s opens own after → IsReport (world_of trace) s lines × (own ≡ [])
   tells lines is (no_lab none d) = absurd (cc (is, ap (λ (a : After). a.reply) d.after_is))
-  tells lines is (told report nothing switches exact after_is) =
+  tells lines is (told report nothing report_is after_is) =
       let both : Some (replies.Audit lines) ≡ Some (replies.Audit report) = sym is ∙ ap (λ (a : After). a.reply) after_is in
       let same : lines ≡ report = cc both in
-      (subst (λ (l : List AuditLine). IsReport w s l) (sym same) (record { switches = switches; exact = exact }), nothing)
+      (subst (λ (l : List AuditLine). IsReport (world_of trace) s l) (sym same) report_is, nothing)
   tells lines is (unread name own_is after_is) = absurd (cc (is, ap (λ (a : After). a.reply) after_is))
   tells lines is (no_memory wants) = absurd (cc (is, ap (λ (a : After). a.reply) wants.after_is))
 
   -- it has no step but of such a reading
-  quiet : Audits w s opens own after → (own ≡ []) ⊎ ((name : List ℕ) × (own ≡ Unread name ∷ []))
+  quiet : Audits (Some trace) s opens own after → (own ≡ []) ⊎ ((name : List ℕ) × (own ≡ Unread name ∷ []))
   quiet (no_lab none d) = inl d.nothing
-  quiet (told report nothing switches exact after_is) = inl nothing
+  quiet (told report nothing report_is after_is) = inl nothing
   quiet (unread name own_is after_is) = inr (name, own_is)
   quiet (no_memory wants) = inl wants.nothing
 
 -- the lab step of one
 module _ (terms : Terms) (trace : List Event) (set : Setting) (s : LabState) (opening own : List Event) (after : After) where
-  went_by : (session : Session) → LabStep terms trace set s session commands.Audit opening own after
-      → BreaksOpening s opening own after ⊎ ((mid : LabState) × Audits (world_of (trace ++ opening)) mid (opens_of session) own after)
+  went_by : (session : Session) → LabStep terms (Some trace) set s session commands.Audit opening own after
+      → BreaksOpening s opening own after ⊎ ((mid : LabState) × Audits (Some (trace ++ opening)) mid (opens_of session) own after)
   went_by Closed (opened mid opens d) = inr (mid, d)
   went_by Closed (not_opened b) = inl b
   went_by (Open opens) step = inr (s, step.1)
@@ -89,22 +89,22 @@ module _ (terms : Terms) (trace : List Event) (piece : Piece) (s last : LabState
   all_own : all ≡ piece.own
   all_own = ap (λ l. piece.own ++ l) told_so.2 ∙ append-nil piece.own
 
-  went : BreaksOpening s piece.opening all ends ⊎ ((mid : LabState) × Audits (world_of (trace ++ piece.opening)) mid (opens_of piece.from) all ends)
-  went = went_by terms trace set s piece.opening all ends piece.from (subst (λ (c : Command). LabStep terms trace set s piece.from c piece.opening all ends) asks steps.step)
+  went : BreaksOpening s piece.opening all ends ⊎ ((mid : LabState) × Audits (Some (trace ++ piece.opening)) mid (opens_of piece.from) all ends)
+  went = went_by terms trace set s piece.opening all ends piece.from (subst (λ (c : Command). LabStep terms (Some trace) set s piece.from c piece.opening all ends) asks steps.step)
 
   quiet_by : (piece.own ≡ []) ⊎ ((name : List ℕ) × (piece.own ≡ Unread name ∷ []))
   quiet_by = ⊎_elim (λ broke. inl (sym all_own ∙ broke.nothing))
-      (λ x. ⊎_elim (λ none. inl (sym all_own ∙ none)) (λ one. inr (one.0, sym all_own ∙ one.1)) (quiet (world_of (trace ++ piece.opening)) x.0 (opens_of piece.from) all ends x.1)) went
+      (λ x. ⊎_elim (λ none. inl (sym all_own ∙ none)) (λ one. inr (one.0, sym all_own ∙ one.1)) (quiet (trace ++ piece.opening) x.0 (opens_of piece.from) all ends x.1)) went
 
   -- the report is of the lab and of the world behind it, which are those before it
   tells_by : (lines : List AuditLine) → reply ≡ replies.Audit lines → IsReport (world_of (trace ++ steps_of piece)) last lines × (piece.own ≡ [])
   tells_by lines is = ⊎_elim (λ broke. absurd (⊎_elim (λ a. cc (a, is)) (λ a. cc (a, is)) (broke_so piece.opening steps.told reply broke.breaks told_so.0)))
       (λ x.
       let w = world_of (trace ++ piece.opening) in
-      let t = tells w x.0 (opens_of piece.from) all ends lines (told_so.0 ∙ ap (λ r. Some r) is) x.1 in
+      let t = tells (trace ++ piece.opening) x.0 (opens_of piece.from) all ends lines (told_so.0 ∙ ap (λ r. Some r) is) x.1 in
       let none : piece.own ≡ [] = sym all_own ∙ t.1 in
       let steps_are : trace ++ piece.opening ≡ trace ++ steps_of piece = ap (λ l. trace ++ l) (sym (ap (λ l. piece.opening ++ l) none ∙ append-nil piece.opening)) in (
-        subst (λ l. IsReport (world_of l) last lines) steps_are (subst (λ (u : LabState). IsReport w u lines) (sym (kept w x.0 (opens_of piece.from) all ends x.1)) t.0),
+        subst (λ l. IsReport (world_of l) last lines) steps_are (subst (λ (u : LabState). IsReport w u lines) (sym (kept (Some (trace ++ piece.opening)) x.0 (opens_of piece.from) all ends x.1)) t.0),
         none,
       ))
       went

@@ -7,7 +7,7 @@ use Rattle.plant.specs.declared.step.Side.{Side}
 use Rattle.journal_model.specs.Appends.{other_side}
 use Rattle.records_model.specs.Labs.{LabState}
 use Rattle.swap_turns.specs.Pieces.{has_miss}
-use Rattle.lab_core.specs.Compaction.{IsCompacted, IsToMove, moves, packed_length, stays}
+use Rattle.lab_core.specs.Compaction.{IsCompacted, IsPackedAt, IsToMove, moves, packed_length, stays}
 use Rattle.lab_core.specs.Controller.{Control}
 use Rattle.lab_core.specs.Moments.{IsLabAt, IsLengthAt, IsLiveAt}
 use Rattle.lab_core.specs.Opening.{HasOpened}
@@ -59,7 +59,7 @@ module _ (trace reading behind : List Event) (c : Control) (e : HasOpened trace 
         epoch = e.epoch + 1;
         live = subst (λ l. IsLiveAt l (other_side e.side) (e.epoch + 1)) joined moved.live;
         small = inr (inl (omega arith));
-        moved = λ was old live. let k = p.kept was old live in inr (ap other_side k.0, ap (λ n. n + 1) k.1);
+        moved = λ was old live. let k = p.kept was old live in inr (ap other_side k.0, ap (λ n. n + 1) k.1, subst (λ l. IsPackedAt l c.lab) joined moved.packed);
       }
 
   pub compact_behind : IsCompact trace (reading ++ behind) c.lab

@@ -1,6 +1,6 @@
 -- A drill is planned, and all else stays as it was.
 use Rattle.std.proofs.Common.{◌≡◌, inl, inr, ℕ, ◌^◌, arith, Bool, true, false, List, [], ◌++◌, Option, Some, None, Result, Ok, Err, refl, sym, ap, subst, ◌∙◌}
-use Rattle.std.specs.Prelude.{IfSome, OnErr, is_some, not, if◌then◌else◌}
+use Rattle.std.specs.Prelude.{IfSome, OnErr, is_some, if◌then◌else◌}
 use Rattle.std.proofs.lemmas.List.{append-nil}
 use Rattle.lab_base.proofs.Tests.{some_weaker}
 use Rattle.plant.specs.declared.drill.Drill.{Drill}
@@ -9,7 +9,7 @@ use Rattle.plant.specs.Events.{Event}
 use Rattle.plant.specs.Seen.{Seen}
 use Rattle.plant.specs.Told.{Told, with_drill, with_mark, with_steps}
 use Rattle.plant.proofs.Traces.{with_steps-nil}
-use Rattle.records_model.specs.Labs.{LabState}
+use Rattle.records_model.specs.Labs.{LabState, at_first}
 use Rattle.records_model.specs.Works.{IsSound}
 use Rattle.swap_turns.proofs.Stood.{sound_stands}
 use Rattle.lab_state.specs.Texts.{the_texts}
@@ -22,14 +22,14 @@ use Rattle.script_text.specs.declared.reply.Reply.TheVariants as replies
 use Rattle.lab_core.specs.Controller.{Control, WorksWith}
 use Rattle.lab_core.specs.Commands.{DoesCommand}
 use Rattle.lab_core.specs.LabSteps.{Drills, StepOf, is_planned, is_refused, wants_memory}
-use Rattle.lab_core.specs.Moments.{AllStandFor, IsLabAt, IsLengthAt}
+use Rattle.lab_core.specs.Moments.{AllStandFor, IsLabAt, IsLengthAt, trace_in, with_more}
 use Rattle.lab_core.specs.Sessions.{OpenSwap, Session, Closed, Open, AreOpenedBy, IsSince, ends_swap, name_in, Terms}
 use Rattle.lab_judge.specs.OpenNames.{name_of}
 use Rattle.lab_core.specs.Tells.{opens_of}
 use Rattle.lab_top.specs.declared.command.CommandFault.{CommandFault}
 use Rattle.lab_top.specs.declared.command.CommandFault.TheVariants as faults
-use Rattle.lab_top.specs.Answering.{Begins, Ends, HasSession, Moment, Plans, StandsAt, piece_of, reply_if}
-use Rattle.lab_top.specs.Pieces.{Finds, FirstLab, IsDone, IsPlannedBy, StepsFrom, WantsOnly, reading as in_reading, blames_if, closes_if, leaves_one, stays_open, with_drill_if}
+use Rattle.lab_top.specs.Answering.{Begins, Ends, HasSession, Moment, Plans, StandsAt, piece_of, reply_if, HandsLab}
+use Rattle.lab_top.specs.Pieces.{Finds, FirstLab, IsDone, IsPlannedBy, StepsFrom, WantsOnly, reading as in_reading, blames_if, closes_if, leaves_one, stays_open, with_drill_if, GoesFrom, Piece}
 use Rattle.lab_top.proofs.Obeyed.{blames_none, ends_of, later_same, map_both}
 use Rattle.lab_top.proofs.Stepping.{AsRead, ImagesAt, after_of, all_some, done_at, lab_length, not_early, standing_all, standing_lab, told_so}
 
@@ -52,7 +52,7 @@ module _ (terms : Terms) (trace : List Event) (command : Command) (mark : Faults
         session = to;
         behind = [];
         is_told = told_so reply to;
-        step = subst (λ (d : Option Drill). StepOf d (DoesCommand terms.rule command (trace ++ []) (record { length = n.0; limit = 2 ^ 32; devices = mark.devices })) terms s from [] [] (after_of reply s to)) (sym is) (refl, stays s);
+        step = subst (λ (d : Option Drill). StepOf d (DoesCommand terms.rule command (Some (trace ++ [])) (record { length = n.0; limit = 2 ^ 32; devices = mark.devices })) terms s from [] [] (after_of reply s to)) (sym is) (refl, stays s);
       }
 
   images : (one : Bool) (s : LabState) → (one ≡ true → AllStandFor trace s) → ImagesAt terms trace (piece_of command mark from to [] [] reply) one trace s
@@ -209,14 +209,20 @@ mild terms drill old new (Ok reply) (inl planned) = (ap closes planned.0, ap bla
 mild terms drill old new (Ok reply) (inr refused) = (ap closes refused.0, ap blames_device refused.0, tt)
 mild terms drill old new (Err fault) wants = (refl, refl, ap (λ f. let r : Result Reply CommandFault = Err f in r) wants.0)
 
+-- and it leaves the session open
+drill_stays : (terms : Terms) (drill : Drill) (old new : Option Told) (result : Result Reply CommandFault) → Plans terms.takes drill old new result → is_some (reply_if result) ≡ true → stays_open (reply_if result) ≡ true
+drill_stays terms drill old new (Ok reply) (inl planned) some = ap (λ r. stays_open (Some r)) planned.0
+drill_stays terms drill old new (Ok reply) (inr refused) some = ap (λ r. stays_open (Some r)) refused.0
+drill_stays terms drill old new (Err fault) wants some = absurd (cc some)
+
 drill_ends : (terms : Terms) (drill : Drill) (old new : Option Told) (result : Result Reply CommandFault) → Plans terms.takes drill old new result → (name : List ℕ) → ends_swap (reply_if result) name ≡ false
 drill_ends terms drill old new (Ok reply) (inl planned) name = ap (λ r. ends_swap (Some r) name) planned.0
 drill_ends terms drill old new (Ok reply) (inr refused) name = ap (λ r. ends_swap (Some r) name) refused.0
 drill_ends terms drill old new (Err fault) wants name = refl
 
-kept_shut : (reply : Option Reply) (from : Session) → closes_if reply ≡ false → stays_open reply ≡ false → kept_by reply from ≡ Closed
-kept_shut None from mild shut = refl
-kept_shut (Some reply) from mild shut = let open_now : stays_open (Some reply) ≡ true = ap not mild in absurd (cc (open_now, shut))
+kept_shut : (reply : Option Reply) (from : Session) → (is_some reply ≡ true → stays_open reply ≡ true) → stays_open reply ≡ false → kept_by reply from ≡ Closed
+kept_shut None from stays shut = refl
+kept_shut (Some reply) from stays shut = absurd (cc (stays refl, shut))
 
 kept_so : (reply : Option Reply) (from : Session) → is_some reply ≡ true → from ≡ kept_by reply from
 kept_so None from some = absurd (cc some)
@@ -226,13 +232,33 @@ opened_kept : (exp : Option (List ℕ)) (reply : Option Reply) (from : Session) 
 opened_kept exp None from count stays o there = absurd there
 opened_kept exp (Some reply) from count stays o there = inr (stays (name_in o), (o, there, refl, refl))
 
+-- the lab is left
+lab_of : Option Control → LabState
+lab_of None = at_first
+lab_of (Some c) = c.lab
+
+lab_kept : (k : Option Control) → IfSome k (λ c. lab_of k ≡ c.lab)
+unfolding lab_of
+lab_kept None = tt
+lab_kept (Some c) = refl
+
+hands_drill : (terms : Terms) (command : Command) (drill : Drill) → drill_of command ≡ Some drill → (told : Option Told) (piece : Piece) → piece.command ≡ command → (is_some piece.reply ≡ true → piece.to ≡ piece.from) → (old new : Option Control) → new ≡ old → HandsLab terms told piece old new
+hands_drill terms command drill is told piece of keeps old new same = record {
+  mid = lab_of old;
+  after = lab_of old;
+  first = lab_kept old;
+  goes = subst (λ (d : Option Drill). GoesFrom d terms (with_more (trace_in told) piece.opening) piece (lab_of old) (lab_of old)) (sym (ap drill_of of ∙ is)) (refl, keeps);
+  last = subst (λ (k : Option Control). IfSome k (λ c. c.lab ≡ lab_of old)) (sym same) (some_weaker old _ _ (λ c h. sym h) (lab_kept old));
+}
+
 pub ends_drill : (terms : Terms) (command : Command) (drill : Drill) → drill_of command ≡ Some drill → (old new : Moment) (result : Result Reply CommandFault) → Plans terms.takes drill old.plant.told new.plant.told result → new.plant.faults ≡ old.plant.faults → new.plant.stopped ≡ old.plant.stopped
     → new.controller ≡ old.controller → (from : Session) → HasSession old from → IfSome old.plant.told (λ t. AsRead t.trace) → Ends terms command old new from result
 ends_drill terms command drill is old new result plans count still kept from goes_on possible =
     let mild_so = mild terms drill old.plant.told new.plant.told result plans in
     ends_of terms command old new from (kept_by (reply_if result) from) result
     (begun_drill terms command old.plant.faults drill is old.plant new.plant.told old.controller from goes_on.stands possible result plans)
-    (kept_shut (reply_if result) from mild_so.0)
+    (hands_drill terms command drill is old.plant.told (piece_of command old.plant.faults from (kept_by (reply_if result) from) _ _ (reply_if result)) refl (λ some. sym (kept_so (reply_if result) from some)) old.controller new.controller kept)
+    (kept_shut (reply_if result) from (drill_stays terms drill old.plant.told new.plant.told result plans))
     (later_same old.plant.faults old.plant.faults new.plant.faults (omega arith) (omega arith) count)
     (λ shut. absurd (cc (mild_so.0, shut)))
     (λ blamed. absurd (cc (mild_so.1, blamed)))

@@ -79,11 +79,11 @@ module _ (exp text : List ℕ) where
             let set : Setting = record { length = l.steps.length; limit = 2 ^ 32; devices = piece.faults.devices } in
             let own = piece.own ++ l.steps.behind in
             let after : After = record { reply = l.steps.told; lab = l.last; session = l.steps.session } in
-            let step : LabStep terms trace set l.first (Open opens) piece.command piece.opening own after
-            = subst (λ f. LabStep terms trace set l.first f piece.command piece.opening own after) from_is l.steps.step in
+            let step : LabStep terms (Some trace) set l.first (Open opens) piece.command piece.opening own after
+            = subst (λ f. LabStep terms (Some trace) set l.first f piece.command piece.opening own after) from_is l.steps.step in
             carry opens (opens_of piece.to) l.first l.last q g at_to
             (stays_same terms trace piece is open_to exp g.swap q differ (ap (λ f. open_at exp (opens_of f)) from_is ∙ g.is_open) at_to)
-            (lab_same terms trace set l.first opens piece.command piece.opening own after exp g.swap (ap is_some g.is_lab) g.is_open step)
+            (lab_same terms (Some trace) set l.first opens piece.command piece.opening own after exp g.swap (ap is_some g.is_lab) g.is_open step)
 
     by_swap : (q : Option OpenSwap) → open_at exp (opens_of piece.to) ≡ q → is_some q ≡ true → (from : Session) → piece.from ≡ from → (drill : Option Drill) → drill_of piece.command ≡ drill → GoesAt (trace ++ steps_of piece) piece.to
     by_swap q at_to some from from_is (Some drill) it =
@@ -108,8 +108,8 @@ module _ (exp text : List ℕ) where
         let own = piece.own ++ l.steps.behind in
         let after : After = record { reply = l.steps.told; lab = l.last; session = l.steps.session } in
         let told = told_of terms trace piece l.first l.last l.steps (More exp) replied_more in
-        let step : LabStep terms trace set l.first piece.from (SwapinWith true exp lines text) piece.opening own after
-        = subst (λ (c : Command). LabStep terms trace set l.first piece.from c piece.opening own after) asks l.steps.step in
+        let step : LabStep terms (Some trace) set l.first piece.from (SwapinWith true exp lines text) piece.opening own after
+        = subst (λ (c : Command). LabStep terms (Some trace) set l.first piece.from c piece.opening own after) asks l.steps.step in
         let g : GoesIn opens l.last exp text = begun_by terms set l.first piece.from exp text lines piece.opening own after opens step told.0 (told.1 ∙ to_is) in
         let at_to : open_at exp (opens_of piece.to) ≡ Some g.swap = ap (λ x. open_at exp (opens_of x)) to_is ∙ g.is_open in (
           (λ s at.
@@ -171,10 +171,10 @@ module _ (terms : Terms) (choices : Option Choices) (old new : Outside) (status 
         let set : Setting = record { length = l.steps.length; limit = 2 ^ 32; devices = c.piece.faults.devices } in
         let own = c.piece.own ++ l.steps.behind in
         let ends : After = record { reply = l.steps.told; lab = l.last; session = l.steps.session } in
-        let step : LabStep terms (trace_after t.trace front) set l.first (Open opens) c.piece.command c.piece.opening own ends
-        = subst (λ f. LabStep terms (trace_after t.trace front) set l.first f c.piece.command c.piece.opening own ends) is l.steps.step in
+        let step : LabStep terms (Some (trace_after t.trace front)) set l.first (Open opens) c.piece.command c.piece.opening own ends
+        = subst (λ f. LabStep terms (Some (trace_after t.trace front)) set l.first f c.piece.command c.piece.opening own ends) is l.steps.step in
         let all : AllMove opens l.first = subst (λ x. AllMove (opens_of x) l.first) is (moves_first terms choices old new status front after c t r told sound) in
-        ended_by terms set l.first opens exp text own ends (told_of terms (trace_after t.trace front) c.piece l.first l.last l.steps (In exp) replied_in).0 (trace_after t.trace front) c.piece.command c.piece.opening turns step all
+        ended_by terms set l.first opens exp text own ends (told_of terms (trace_after t.trace front) c.piece l.first l.last l.steps (In exp) replied_in).0 (Some (trace_after t.trace front)) c.piece.command c.piece.opening turns step all
         (first_goes exp text terms (trace_after t.trace front) c.piece opens is l goes_here)
 
     pub ended_inside : (s : LabState) × AllStandFor (trace_after t.trace (front ++ c ∷ [])) s × IsInBy s exp text

@@ -6,6 +6,7 @@ mod Commanding
 mod Compact
 mod Drilling
 mod Ended
+mod EveryPlant
 mod Headline
 mod Moving
 mod Obeyed
@@ -16,3 +17,4 @@ mod Stepping
 mod Tellings
 pub mod TurnLaws
 mod Wording
+mod EachImage

@@ -63,7 +63,7 @@ module _ (terms : Terms) (trace : List Event) (piece : Piece) (is : IsPiece term
 
       here : AllMove opens l.last
       here =
-          all_move terms trace set l.first piece.from piece.opening own after piece.command opens (ended piece.reply refl answered ∙ to_is) (first_sane (is_early piece) trace l.first l.before).none differ (first_moves terms trace piece l moves) l.steps.step
+          all_move terms (Some trace) set l.first piece.from piece.opening own after piece.command opens (ended piece.reply refl answered ∙ to_is) (first_sane (is_early piece) trace l.first l.before).none differ (first_moves terms trace piece l moves) l.steps.step
 
   pub piece_moves : MoveAt (trace ++ steps_of piece) piece.to
   piece_moves = by piece.to refl

@@ -12,7 +12,7 @@ use Rattle.plant.specs.Events.{Event, Restarted}
 use Rattle.plant.specs.Seen.{Seen}
 use Rattle.plant.specs.Told.{Told, with_steps}
 use Rattle.plant.proofs.Traces.{with_steps-append, with_steps-nil}
-use Rattle.journal_disk.specs.Standing.{limit_of}
+use Rattle.journal_disk.specs.Standing.{limit_of, length_of}
 use Rattle.journal_disk.specs.declared.fault.OpenFault.{OpenFault}
 use Rattle.journal_disk.specs.declared.fault.OpenFault.TheVariants as openings
 use Rattle.lab_state.specs.Texts.{the_texts}
@@ -29,25 +29,30 @@ use Rattle.lab_core.specs.declared.fault.CoreFault.TheVariants as faults
 use Rattle.lab_core.specs.Breaks.{Breaks, failed, unanswered}
 use Rattle.lab_core.specs.Controller.{Control, Works, WorksWith}
 use Rattle.lab_judge.specs.Judge.{Task, Recover}
-use Rattle.lab_core.specs.LabSteps.{JudgedBeside}
+use Rattle.lab_core.specs.LabSteps.{JudgedBeside, StepOf}
 use Rattle.lab_core.specs.Lists.{Ground, between as playing, undone as nothing_played}
 use Rattle.lab_core.specs.Obey.{AnswersBy, Doing, ObeysCommand, StepsBy, WantsIn, between, does_command, start_of, undone, wants_of_command}
 use Rattle.lab_core.specs.Opening.{OpenEnds, OpenSteps, OpenTold}
-use Rattle.lab_core.specs.Sessions.{OpenSwap, Session, Closed, Open, AreOpenedBy, blames_now, counted_from, names_of, Terms}
+use Rattle.lab_core.specs.Sessions.{OpenSwap, Session, Closed, Open, AreOpenedBy, blames_now, counted_from, names_of, Terms, open_by}
 use Rattle.lab_judge.specs.OpenNames.{is_among, name_of}
-use Rattle.lab_core.specs.Tells.{opens_of}
+use Rattle.lab_core.specs.Tells.{opens_of, TellsBroken}
 use Rattle.lab_top.specs.declared.command.CommandFault.{CommandFault}
 use Rattle.lab_top.specs.declared.command.CommandFault.TheVariants as command_faults
 use Rattle.lab_judge.proofs.Fits.{fits}
-use Rattle.lab_core.proofs.Obey.{now_blames}
+use Rattle.lab_core.proofs.Obey.{now_blames, in_trace}
 use Rattle.lab_core.proofs.OuterSteps.{no_start}
 use Rattle.lab_core.proofs.Wanting.{command_wants, plain_wants}
 use Rattle.swap_turns.specs.Pieces.{has_command}
 use Rattle.swap_turns.proofs.Stood.{stood_alike}
-use Rattle.lab_top.specs.Pieces.{Finds, FindsNone, IsPiece, IsPlannedBy, Later, WantsBehind, WantsOnly, behind as goes_behind, reading as in_reading, settling as in_settling, blames_if, blames_now_if, closes_if, is_closed, leaves_one, may_shut, opened, stays_open}
-use Rattle.lab_top.specs.Answering.{Does, DoesOwn, FoundNone, HasSession, IsMarkAt, IsOpen, Makes, MayGoOn, MayOpen, OwnTold, StandsAt, Starts, Unopened, Begins, Made, Ends, Moment, WasOpened, piece_of, reply_if}
+use Rattle.lab_top.specs.Pieces.{Finds, FindsNone, IsPiece, IsPlannedBy, Later, WantsBehind, WantsOnly, behind as goes_behind, reading as in_reading, settling as in_settling, blames_if, blames_now_if, closes_if, is_closed, leaves_one, may_shut, opened, stays_open, GoesFrom, OwnStep, ButForReply}
+use Rattle.lab_top.specs.Answering.{Does, DoesOwn, FoundNone, HasSession, IsMarkAt, IsOpen, Makes, MayGoOn, MayOpen, OwnTold, StandsAt, Starts, Unopened, Begins, Made, Ends, Moment, WasOpened, piece_of, reply_if, DoesEver, HandsLab}
 use Rattle.lab_top.proofs.BrokenOpenings.{again_piece, cut_piece, missed_in, nothing_outer}
-use Rattle.lab_top.proofs.Stepping.{AsRead, own_answered, own_closed, own_stopped, own_stays, own_unmade, standing_lab, was_open, is_opened, has_led}
+use Rattle.lab_top.proofs.Stepping.{AsRead, own_answered, own_closed, own_stopped, own_stays, own_unmade, standing_lab, was_open, is_opened, has_led, after_of, told_so}
+use Rattle.lab_core.specs.Moments.{trace_in, with_more, IsLengthAt, IsLengthBehind}
+use Rattle.lab_core.proofs.Composing.{works_length}
+use Rattle.lab_core.specs.Commands.{DoesCommand, LabStep}
+use Rattle.records_model.specs.Labs.{LabState, at_first}
+use Rattle.lab_core.proofs.StopsShut.{command_shut}
 
 -- WHAT A PLANT TELLS after more steps
 
@@ -101,8 +106,43 @@ blames_none (Some reply) mild = by (blames_now reply) refl
 pub goes_closed : (plant : Seen) → HasSession (record { plant = plant; controller = None }) Closed
 goes_closed plant = record { stands = tt; runs = λ some. absurd (cc some) }
 
+-- a trace with no steps more, and what a plant tells with some
+pub with_more-nil : (trace : Option (List Event)) → with_more trace [] ≡ trace
+with_more-nil None = refl
+with_more-nil (Some t) = ap Some (append-nil t)
+
+pub trace_steps : (told : Option Told) (steps : List Event) → trace_in (with_steps told steps) ≡ with_more (trace_in told) steps
+trace_steps None steps = refl
+trace_steps (Some t) steps = refl
+
+-- an own step of another piece with the same command, counts, reply and steps
+pub own_as : (terms : Terms) (trace : Option (List Event)) (command : Command) (mark : Faults) (from other to : Session) (opening front own : List Event) (reply : Option Reply) (mid after : LabState) → opens_of other ≡ opens_of from
+    → OwnStep terms trace (piece_of command mark from to opening own reply) mid after → OwnStep terms trace (piece_of command mark other to front own reply) mid after
+own_as terms trace command mark from other to opening front own reply mid after same x = record {
+  sane = x.sane;
+  length = x.length;
+  length_is = x.length_is;
+  told = x.told;
+  session = x.session;
+  behind = x.behind;
+  is_told = x.is_told;
+  step = subst (λ l. LabStep terms trace (record { length = x.length; limit = 2 ^ 32; devices = mark.devices }) mid (Open l) command [] (own ++ x.behind) (record { reply = x.told; lab = after; session = x.session })) (sym same) x.step;
+}
+
+if_traced : (told : Option Told) (P : Option (List Event) → Type 0) → P (trace_in told) → IfSome told (λ t. P (Some t.trace))
+if_traced None P h = tt
+if_traced (Some t) P h = h
+
+-- a reply behind which the session stays open
+stays_so : (reply : Reply) → closes reply ≡ false → (reply ≡ replies.Stopped → ⊥) → stays_open (Some reply) ≡ true
+stays_so replies.Stopped goes other = absurd (other refl)
+stays_so reply goes other = ap not goes
+
+open_never : {to : List OpenSwap} → ◌≡◌ {A = Session} (Open to) Closed → ⊥
+open_never is = cc is
+
 -- WHAT A CALL OF THE CONTROLLER LEAVES, over one trace and whatever opening was before it
-module _ (terms : Terms) (mark : Faults) (old mid : Seen) (command : Command) (no_drill : drill_of command ≡ None) (c d : Control) (swaps : List OpenSwap) where
+module _ (terms : Terms) (mark : Faults) (old mid : Seen) (command : Command) (no_drill : drill_of command ≡ None) (c d : Control) (swaps : List OpenSwap) (is : IsOpen old c swaps) where
   abbrev Judges : Result Task Reply → Type 0
   Judges = JudgedBeside terms.rule command swaps c.lab
 
@@ -113,43 +153,90 @@ module _ (terms : Terms) (mark : Faults) (old mid : Seen) (command : Command) (n
   At result = ObeysCommand terms.rule command mark.devices old mid c d swaps result
 
   abbrev Leaving : List OpenSwap → Result Reply CoreFault → List Event → List Event → Type 0
-  Leaving to result own trace = StepsBy Done (wants_of_command terms.rule command mark.devices c swaps) trace own d.lab to result
+  Leaving to result own trace = StepsBy Done (wants_of_command terms.rule command mark.devices c swaps) (Some trace) own d.lab to result
 
   abbrev Does_so : (List Event → Type 0) → List OpenSwap → Result Reply CoreFault → List Event → List Event → Session → Option Reply → Type 0
   Does_so Then to result own all session reply = (before : List Event) (from : Session) (opening : List Event) → WasOpened before from opening c swaps → Leaving to result own (before ++ opening) → Then ((before ++ opening) ++ own)
       → Does terms before (piece_of command mark from session opening all reply)
 
+  -- over what the plant tells
+  told_steps : (result : Result Reply CoreFault) (at : At result) → IfSome old.told (λ t. Leaving at.to result at.obeys.0 t.trace)
+  told_steps result at = if_traced old.told (λ x. StepsBy Done (wants_of_command terms.rule command mark.devices c swaps) x at.obeys.0 d.lab at.to result) at.obeys.2
+
+  -- OVER EVERY PLANT what the controller did is a lab step
+  abbrev trace : Option (List Event)
+  trace = trace_in old.told
+
+  abbrev Ever : List Event → Session → Option Reply → Type 0
+  Ever own to reply = DoesEver terms trace command mark c swaps own to reply
+
+  length_here : IsLengthBehind trace [] (2 ^ 32) (length_of c.journal)
+  length_here = record {
+    told = in_trace old.told (λ t. IsLengthAt (t ++ []) (length_of c.journal)) (some_weaker old.told _ _ (λ t n. subst (λ l. IsLengthAt l (length_of c.journal)) (sym (append-nil t.trace)) n) (works_length old c swaps is.works));
+    within = omega (arith, is.works.working.work.room.few, is.limit);
+  }
+
+  ever : (own steps : List Event) (to : Session) (reply told : Option Reply) (session : Session) (behind : List Event) (lab : LabState) → ButForReply reply to told session behind → steps ≡ own ++ behind → Done trace steps (after_of told lab session) → Ever own to reply
+  ever own steps to reply told session behind lab but are done = (
+    lab,
+    record {
+      sane = is.works.working.work.sane;
+      length = length_of c.journal;
+      length_is = length_here;
+      told = told;
+      session = session;
+      behind = behind;
+      is_told = but;
+      step = subst (λ (drill : Option Drill). StepOf drill (DoesCommand terms.rule command (with_more trace []) (record { length = length_of c.journal; limit = 2 ^ 32; devices = mark.devices })) terms c.lab (Open swaps) [] (own ++ behind) (after_of told lab session)) (sym no_drill) (
+        refl,
+        subst (λ n. DoesCommand terms.rule command (with_more trace []) (record { length = length_of c.journal; limit = n; devices = mark.devices }) swaps c.lab (own ++ behind) (after_of told lab session)) is.limit
+            (subst (λ l. DoesCommand terms.rule command (with_more trace []) (start_of mark.devices c swaps).set swaps c.lab l (after_of told lab session)) are
+            (subst (λ o. DoesCommand terms.rule command o (start_of mark.devices c swaps).set swaps c.lab steps (after_of told lab session)) (sym (with_more-nil trace)) done)),
+      );
+    },
+  )
+
   -- by what holds of each trace that is an opening behind another one
   own_by : (result : Result Reply CoreFault) (at : At result) (new : Option Told) (more : List Event) (session : Session) (reply : Option Reply) → new ≡ with_steps mid.told more → (Then : List Event → Type 0) → IfSome mid.told (λ t. Then t.trace)
-      → Does_so Then at.to result at.obeys.0 (at.obeys.0 ++ more) session reply → OwnTold terms old.told new command mark c swaps session reply
-  own_by result at new more session reply is Then then does =
+      → Does_so Then at.to result at.obeys.0 (at.obeys.0 ++ more) session reply → Ever (at.obeys.0 ++ more) session reply → OwnTold terms old.told new command mark c swaps session reply
+  own_by result at new more session reply is Then then does it =
       let told = at.obeys in (
         told.0 ++ more,
         is ∙ ap (λ o. with_steps o more) told.1 ∙ with_steps-append old.told told.0 more,
-        map_both old.told (λ t obeys here before from opening same w. does before from opening w (subst (Leaving at.to result told.0) same obeys) (subst (λ l. Then (l ++ told.0)) same here)) told.2 (carried old.told mid.told told.0 told.1 Then then),
+        map_both old.told (λ t obeys here before from opening same w. does before from opening w (subst (Leaving at.to result told.0) same obeys) (subst (λ l. Then (l ++ told.0)) same here)) (told_steps result at) (carried old.told mid.told told.0 told.1 Then then),
+        it,
       )
 
   -- with no step behind
   own_alone : (result : Result Reply CoreFault) (at : At result) (session : Session) (reply : Option Reply) → (Then : List Event → Type 0) → IfSome mid.told (λ t. Then t.trace) → Does_so Then at.to result at.obeys.0 at.obeys.0 session reply
-      → OwnTold terms old.told mid.told command mark c swaps session reply
-  own_alone result at session reply Then then does =
+      → Ever (at.obeys.0 ++ []) session reply → OwnTold terms old.told mid.told command mark c swaps session reply
+  own_alone result at session reply Then then does it =
       own_by result at mid.told [] session reply (with_steps-nil mid.told) Then then
       (λ before from opening w obeys here. subst (λ l. Does terms before (piece_of command mark from session opening l reply)) (sym (append-nil at.obeys.0)) (does before from opening w obeys here))
+      it
+
+  -- its steps, with no step behind
+  as_are : (own : List Event) → own ≡ (own ++ []) ++ []
+  as_are own = sym (append-nil (own ++ []) ∙ append-nil own)
 
   abbrev AtWorkHere : List Event → Type 0
   AtWorkHere trace = Stands the_texts trace d.journal d.lab
 
   -- it goes on
   pub makes_on : (reply : Reply) → At (Ok reply) → closes reply ≡ false → limit_of d.journal ≡ 2 ^ 32 → mid.stopped ≡ false → Makes terms mark command old c swaps (record { plant = mid; controller = Some d }) (Some reply)
+  unfolding own_alone own_by ever
   makes_on reply at goes limit runs =
       let works = at.works (ap not goes) in
       record {
         to = Open at.to;
         own = own_alone (Ok reply) at (Open at.to) (Some reply) AtWorkHere works.working.work.stands
             (λ before from opening w o stands.
-            own_answered terms mark before from opening c swaps w command no_drill at.obeys.0 o.sound d at.to reply (subst (λ b. AnswersBy Done (before ++ opening) at.obeys.0 reply d.lab at.to b) goes o.ends) stands);
+            own_answered terms mark before from opening c swaps w command no_drill at.obeys.0 o.sound d at.to reply (subst (λ b. AnswersBy Done (Some (before ++ opening)) at.obeys.0 reply d.lab at.to b) goes o.ends) stands)
+            (ever (at.obeys.0 ++ []) at.obeys.0 (Open at.to) (Some reply) (Some reply) (Open at.to) [] d.lab (told_so (Some reply) (Open at.to)) (as_are at.obeys.0) (subst (λ b. AnswersBy Done trace at.obeys.0 reply d.lab at.to b) goes at.obeys.2.ends));
+        lab = refl;
         shut = λ shut. absurd (cc shut);
-        closed = λ shut. let open_now : stays_open (Some reply) ≡ true = ap not goes in absurd (cc (open_now, shut));
+        closed = λ shut. let open_now : stays_open (Some reply) ≡ true = stays_so reply goes (λ stops. open_never (command_shut terms command trace (start_of mark.devices c swaps).set swaps c.lab at.obeys.0 (open_by reply d.lab at.to)
+            (subst (λ b. AnswersBy Done trace at.obeys.0 reply d.lab at.to b) goes at.obeys.2.ends) (ap (λ r. Some r) stops))) in absurd (cc (open_now, shut));
         device = at.device;
         here = at.here;
         opened = at.opened;
@@ -163,7 +250,10 @@ module _ (terms : Terms) (mark : Faults) (old mid : Seen) (command : Command) (n
     to = Closed;
     own = own_alone (Ok reply) at Closed (Some reply) AsRead there
         (λ before from opening w o here.
-        own_closed terms mark before from opening c swaps w command no_drill at.obeys.0 o.sound reply (not_one reply shut) (subst (λ b. AnswersBy Done (before ++ opening) at.obeys.0 reply d.lab at.to b) shut o.ends) here);
+        own_closed terms mark before from opening c swaps w command no_drill at.obeys.0 o.sound reply (not_one reply shut) (subst (λ b. AnswersBy Done (Some (before ++ opening)) at.obeys.0 reply d.lab at.to b) shut o.ends) here)
+        (let leaves = subst (λ b. AnswersBy Done trace at.obeys.0 reply d.lab at.to b) shut at.obeys.2.ends in
+        ever (at.obeys.0 ++ []) (at.obeys.0 ++ []) Closed (Some reply) (Some reply) Closed [] leaves.lab (told_so (Some reply) Closed) (sym (append-nil (at.obeys.0 ++ []))) (leaves.done [] []));
+    lab = tt;
     shut = λ closed. shuts_so reply shut;
     closed = λ closed. refl;
     device = at.device;
@@ -180,16 +270,20 @@ module _ (terms : Terms) (mark : Faults) (old mid : Seen) (command : Command) (n
       let b = starts.1.1 in
       subst (λ r. OwnTold terms old.told new command mark c swaps Closed (Some r)) (sym starts.0)
       (own_by (Err faults.Stopped) at new (Restarted a b ∷ []) Closed (Some replies.Stopped) starts.1.2 (λ l. ArePossible l a b) starts.1.3
-      (λ before from opening w o here. own_stopped terms mark before from opening c swaps w command no_drill at.obeys.0 o.sound o.ends a b here))
+      (λ before from opening w o here. own_stopped terms mark before from opening c swaps w command no_drill at.obeys.0 o.sound o.ends a b here)
+      (ever (at.obeys.0 ++ Restarted a b ∷ []) (at.obeys.0 ++ Restarted a b ∷ []) Closed (Some replies.Stopped) (Some replies.Stopped) Closed [] at.obeys.2.ends.lab (told_so (Some replies.Stopped) Closed)
+      (sym (append-nil (at.obeys.0 ++ Restarted a b ∷ []))) (at.obeys.2.ends.done a b)))
   own_stopped_told new (Err fault) at starts there =
       subst (λ n. OwnTold terms old.told n command mark c swaps Closed None) (sym starts.1)
-      (own_alone (Err faults.Stopped) at Closed None AsRead there (λ before from opening w o here. own_stays terms mark before from opening c swaps w command no_drill at.obeys.0 o.sound o.ends here))
+      (own_alone (Err faults.Stopped) at Closed None AsRead there (λ before from opening w o here. own_stays terms mark before from opening c swaps w command no_drill at.obeys.0 o.sound o.ends here)
+      (ever (at.obeys.0 ++ []) (at.obeys.0 ++ Restarted [] [] ∷ []) Closed None (Some replies.Stopped) Closed (Restarted [] [] ∷ []) at.obeys.2.ends.lab (inr ([], [], refl)) (λ i. sym (append-nil at.obeys.0) i ++ Restarted [] [] ∷ []) (at.obeys.2.ends.done [] [])))
 
   pub makes_stopped : (new : Seen) (result : Result Reply CommandFault) → At (Err faults.Stopped) → Starts mid.told new.told result → IfSome mid.told (λ t. AsRead t.trace) → (is_some (reply_if result) ≡ false → new.stopped ≡ true)
       → Makes terms mark command old c swaps (record { plant = new; controller = None }) (reply_if result)
   makes_stopped new result at starts there halts = record {
     to = Closed;
     own = own_stopped_told new.told result at starts there;
+    lab = tt;
     shut = λ closed. starts_shut mid.told new.told result starts;
     closed = λ closed. refl;
     device = λ blamed. absurd (cc (starts_blameless mid.told new.told result starts, blamed));
@@ -207,27 +301,29 @@ module _ (terms : Terms) (mark : Faults) (old mid : Seen) (command : Command) (n
   unfolding own_alone own_by
   makes_not at = record {
     to = Closed;
-    own = own_alone (Err faults.Memory) at Closed None AtWorkHere (at.works refl).working.work.stands (λ before from opening w o stands. own_unmade terms mark before from opening c swaps w command no_drill at.obeys.0 o.sound d (command_wants terms.rule mark.devices c swaps (before ++ opening) at.obeys.0 d.lab at.to command o.ends) stands);
+    own = own_alone (Err faults.Memory) at Closed None AtWorkHere (at.works refl).working.work.stands (λ before from opening w o stands. own_unmade terms mark before from opening c swaps w command no_drill at.obeys.0 o.sound d (command_wants terms.rule mark.devices c swaps (Some (before ++ opening)) at.obeys.0 d.lab at.to command o.ends) stands)
+        (ever (at.obeys.0 ++ []) at.obeys.0 Closed None None Closed [] d.lab (told_so None Closed) (as_are at.obeys.0) (command_wants terms.rule mark.devices c swaps trace at.obeys.0 d.lab at.to command at.obeys.2.ends));
+    lab = tt;
     shut = λ closed. refl;
     closed = λ closed. refl;
     device = λ blamed. absurd (cc blamed);
     here = λ blamed. absurd (cc blamed);
     opened = opened_none (name_of command) None swaps mark.devices;
     goes_on = goes_closed mid;
-    wants = λ none runs. some_weaker old.told _ _ (λ t o. subst (WantsBehind terms.rule command t.trace here_ground c.lab swaps) (sym (append-nil at.obeys.0)) (by t.trace at.obeys.0 command refl o.ends)) at.obeys.2;
+    wants = λ none runs. some_weaker old.told _ _ (λ t o. subst (WantsBehind terms.rule command t.trace here_ground c.lab swaps) (sym (append-nil at.obeys.0)) (by t.trace at.obeys.0 command refl o.ends)) (told_steps (Err faults.Memory) at);
   }
     where
       plain : (trace own : List Event) (asked : Command) → WantsIn (JudgedBeside terms.rule asked swaps c.lab) (start_of mark.devices c swaps) own d.lab at.to → WantsBehind terms.rule asked trace here_ground c.lab swaps own
       plain trace own asked (undone nothing lab_is to_is) = inl nothing
       plain trace own asked (between judged first to_is) = inr (inl (fits c.lab (is_among (names_of swaps) (name_of asked)) (length swaps) terms.rule asked (Ok Recover) judged, (d.lab, first)))
 
-      by : (trace own : List Event) (asked : Command) → command ≡ asked → wants_of_command terms.rule asked mark.devices c swaps trace own d.lab at.to → WantsBehind terms.rule asked trace here_ground c.lab swaps own
+      by : (trace own : List Event) (asked : Command) → command ≡ asked → wants_of_command terms.rule asked mark.devices c swaps (Some trace) own d.lab at.to → WantsBehind terms.rule asked trace here_ground c.lab swaps own
       by trace own (commands.Play exp from until lines text) is (nothing_played nothing lab_is to_is) = inl nothing
       by trace own (commands.Play exp from until lines text) is (playing start place judged past) = inr (inr (start, place, judged, (d.lab, at.to, past)))
       by trace own (commands.Batch moment lines text) is (nothing_played nothing lab_is to_is) = inl nothing
       by trace own (commands.Batch moment lines text) is (playing start place judged past) = inr (inr (start, place, judged, (d.lab, at.to, past)))
       by trace own commands.Audit is wants = inl wants.0
-      by trace own asked is wants = plain trace own asked (plain_wants terms.rule mark.devices c swaps trace own d.lab at.to asked refl wants)
+      by trace own asked is wants = plain trace own asked (plain_wants terms.rule mark.devices c swaps (Some trace) own d.lab at.to asked refl wants)
 
 -- WHAT A COMMAND BEGAN
 module _ (terms : Terms) (command : Command) (mark : Faults) (no_drill : drill_of command ≡ None) where
@@ -274,6 +370,11 @@ module _ (terms : Terms) (command : Command) (mark : Faults) (no_drill : drill_o
       open_piece t.trace Closed m.to steps m.own.0 reply (m.closed, m.shut) readable ((λ sent. o.ends.settled.read.journal), opened it.no_miss (no_start steps it.no_outer) o.ends.settled.read.journal (has_led t.trace reading moving c o both.0)) (both.1 t.trace Closed steps refl w)) opens there
       (carried old mid.told steps is (λ l. Stands the_texts l c.journal c.lab × DoesOwn terms l command mark c [] m.own.0 m.to reply) (map_both mid.told (λ t stands does. (stands, does)) works.stands m.own.2)))
 
+-- a closed session has no controller
+none_there : (plant : Seen) (k : Option Control) (P : Control → Type 0) → StandsAt plant k Closed → IfSome k P
+none_there plant None P at = tt
+none_there plant (Some c) P at = absurd at
+
 -- WHERE THE CONTROLLER COULD NOT BE OPENED, from a moment at which it is closed
 module _ (terms : Terms) (command : Command) (no_drill : drill_of command ≡ None) (plant : Seen) (new : Moment) (mid : Option Told) (fault : OpenFault) (opens : OpenTold plant.told mid (2 ^ 32) (Err fault))
     (there : IfSome plant.told (λ t. AsRead t.trace)) (then : IfSome mid (λ t. AsRead t.trace)) (later : Later plant.faults new.plant.faults) (goes_on : HasSession new Closed) where
@@ -294,12 +395,24 @@ module _ (terms : Terms) (command : Command) (no_drill : drill_of command ≡ No
   abbrev WantsAt : Option Reply → List Event → List Event → Type 0
   WantsAt reply opening own = is_some reply ≡ false → new.plant.stopped ≡ false → IfSome plant.told (λ t. WantsOnly terms t.trace (piece_of command plant.faults Closed Closed opening own reply))
 
+  -- nothing of its own was done, from any lab
+  broken_lab : (reply : Option Reply) (begun : Begins terms command plant.faults plant.told new.plant.told Closed Closed reply) → begun.own ≡ [] → IfSome reply TellsBroken
+      → HandsLab terms plant.told (piece_of command plant.faults Closed Closed begun.opening begun.own reply) None new.controller
+  broken_lab reply begun none tells = record {
+    mid = at_first;
+    after = at_first;
+    first = tt;
+    goes = subst (λ (drill : Option Drill). GoesFrom drill terms (with_more (trace_in plant.told) begun.opening) (piece_of command plant.faults Closed Closed begun.opening begun.own reply) at_first at_first) (sym no_drill)
+        (inr (record { closed = refl; nothing = none; shut = refl; tells = tells }));
+    last = none_there new.plant new.controller (λ c. c.lab ≡ at_first) goes_on.stands;
+  }
+
   abbrev made : (reply : Option Reply) (begun : Begins terms command plant.faults plant.told new.plant.told Closed Closed reply) → (closes_if reply ≡ true → Rose plant.faults.disk new.plant.faults.disk) → blames_if reply ≡ false → (is_some reply ≡ true → new.plant.stopped ≡ false)
-      → WantsAt reply begun.opening begun.own → Made terms command old new Closed Closed reply
-  made reply begun disk blameless runs wants = record { begun = begun; later = later; disk = disk; device = λ blamed. absurd (cc (blameless, blamed)); here = λ blamed. absurd (cc (blames_none reply blameless, blamed)); opened = opened_none (name_of command) reply [] plant.faults.devices; shut = λ shut. refl; runs = λ some was. runs some; goes_on = λ some. goes_on; wants = wants }
+      → WantsAt reply begun.opening begun.own → begun.own ≡ [] → IfSome reply TellsBroken → Made terms command old new Closed Closed reply
+  made reply begun disk blameless runs wants none tells = record { begun = begun; labs = broken_lab reply begun none tells; later = later; disk = disk; device = λ blamed. absurd (cc (blameless, blamed)); here = λ blamed. absurd (cc (blames_none reply blameless, blamed)); opened = opened_none (name_of command) reply [] plant.faults.devices; shut = λ shut. refl; runs = λ some was. runs some; goes_on = λ some. goes_on; wants = wants }
 
   abbrev silent_end : new.plant.told ≡ mid → WantsAt None steps [] → Made terms command old new Closed Closed None
-  silent_end same wants = made None (begins_cut None refl same (λ some. absurd (cc some)) (some_weaker plant.told _ _ (λ t o. unanswered refl) opens.3)) (λ shut. absurd (cc shut)) refl (λ some. absurd (cc some)) wants
+  silent_end same wants = made None (begins_cut None refl same (λ some. absurd (cc some)) (some_weaker plant.told _ _ (λ t o. unanswered refl) opens.3)) (λ shut. absurd (cc shut)) refl (λ some. absurd (cc some)) wants refl tt
 
   -- memory was wanting, or the sides are no journal
   only_read : (trace : List Event) → OpenSteps trace opens.0 opens.1 (2 ^ 32) (Err fault) → opens.1 ≡ [] → WantsOnly terms trace (piece_of command plant.faults Closed Closed steps [] None)
@@ -328,7 +441,7 @@ module _ (terms : Terms) (command : Command) (no_drill : drill_of command ≡ No
   down_end is same missed runs =
       in_reply replies.Down (made (Some replies.Down) (begins_cut (Some replies.Down) refl same (λ some. is)
       (map_both plant.told (λ t o readable. failed (nothing_outer terms t.trace command plant.faults no_drill opens.0 opens.1 fault o readable) (missed_in terms t.trace command plant.faults no_drill opens.0 opens.1 fault o readable is) refl) opens.3 there))
-      (λ shut. missed) refl (λ some. runs) (λ none. absurd (cc none)))
+      (λ shut. missed) refl (λ some. runs) (λ none. absurd (cc none)) refl tt)
 
   again_end : fault ≡ openings.Stopped → (reply : Reply) → Starts mid new.plant.told (Ok reply) → new.plant.stopped ≡ false → Ends terms command old new Closed (Ok reply)
   again_end is reply (told, (a, b, again, possible)) runs =
@@ -338,7 +451,7 @@ module _ (terms : Terms) (command : Command) (no_drill : drill_of command ≡ No
       (again ∙ ap (λ o. with_steps o (Restarted a b ∷ [])) opens.2 ∙ with_steps-append plant.told steps (Restarted a b ∷ []) ∙ ap (λ l. with_steps plant.told l) (sym (append-nil opening)))
       (map_three plant.told (λ t o readable now. again_piece terms t.trace command plant.faults no_drill opens.0 opens.1 (subst (λ f. OpenSteps t.trace opens.0 opens.1 (2 ^ 32) (Err f)) is o) readable a b now) opens.3 there
       (carried plant.told mid steps opens.2 (λ l. ArePossible l a b) possible)))
-      (λ shut. absurd (cc shut)) refl (λ some. runs) (λ none. absurd (cc none))))
+      (λ shut. absurd (cc shut)) refl (λ some. runs) (λ none. absurd (cc none)) refl tt))
 
   -- the sides are no journal
   none_end : (side : Side) (at : ℕ) → fault ≡ openings.Bad side at → new.plant.told ≡ mid → new.plant.stopped ≡ false → FoundNone terms command old new Closed side at
@@ -381,16 +494,17 @@ module _ (terms : Terms) (command : Command) (no_drill : drill_of command ≡ No
       by openings.Memory is so = subst (λ r. Ends terms command old new Closed r) (sym so.0) (silent_end so.1 (wants_memory is))
 
 -- WHATEVER AN OPEN CONTROLLER MADE, with the counts of faults and what is kept
-pub ends_of : (terms : Terms) (command : Command) (old new : Moment) (from to : Session) (result : Result Reply CommandFault) (begun : Begins terms command old.plant.faults old.plant.told new.plant.told from to (reply_if result)) → (stays_open (reply_if result) ≡ false → to ≡ Closed)
+pub ends_of : (terms : Terms) (command : Command) (old new : Moment) (from to : Session) (result : Result Reply CommandFault) (begun : Begins terms command old.plant.faults old.plant.told new.plant.told from to (reply_if result))
+    → HandsLab terms old.plant.told (piece_of command old.plant.faults from to begun.opening begun.own (reply_if result)) old.controller new.controller → (stays_open (reply_if result) ≡ false → to ≡ Closed)
     → Later old.plant.faults new.plant.faults → (closes_if (reply_if result) ≡ true → Rose old.plant.faults.disk new.plant.faults.disk)
     → (blames_if (reply_if result) ≡ true → Rose (counted_from (opens_of from) (name_of command) old.plant.faults.devices) new.plant.faults.devices) → (blames_now_if (reply_if result) ≡ true → Rose old.plant.faults.devices new.plant.faults.devices)
     → AreOpenedBy (name_of command) (reply_if result) (opens_of from) (opens_of to) old.plant.faults.devices
     → (is_some (reply_if result) ≡ true → old.plant.stopped ≡ false → new.plant.stopped ≡ false) → OnErr result (result ≡ Err command_faults.Memory) → (is_some (reply_if result) ≡ true → HasSession new to)
     → (is_some (reply_if result) ≡ false → new.plant.stopped ≡ false → IfSome old.plant.told (λ t. WantsOnly terms t.trace (piece_of command old.plant.faults from to begun.opening begun.own (reply_if result)))) → Ends terms command old new from result
-ends_of terms command old new from to (Ok reply) begun closed later down device here since runs memory goes_on wants = (to, record { begun = begun; later = later; disk = down; device = device; here = here; opened = since; shut = closed; runs = runs; goes_on = goes_on; wants = wants })
-ends_of terms command old new from to (Err fault) begun closed later down device here since runs memory goes_on wants =
+ends_of terms command old new from to (Ok reply) begun labs closed later down device here since runs memory goes_on wants = (to, record { begun = begun; labs = labs; later = later; disk = down; device = device; here = here; opened = since; shut = closed; runs = runs; goes_on = goes_on; wants = wants })
+ends_of terms command old new from to (Err fault) begun labs closed later down device here since runs memory goes_on wants =
     subst (λ r. Ends terms command old new from r) (sym memory)
-    (subst (λ s. Made terms command old new from s None) (closed refl) (record { begun = begun; later = later; disk = down; device = device; here = here; opened = since; shut = closed; runs = runs; goes_on = goes_on; wants = wants }))
+    (subst (λ s. Made terms command old new from s None) (closed refl) (record { begun = begun; labs = labs; later = later; disk = down; device = device; here = here; opened = since; shut = closed; runs = runs; goes_on = goes_on; wants = wants }))
 
 -- the session of a controller that is there, and of none
 pub open_session : (plant : Seen) (k : Option Control) (c : Control) (from : Session) → k ≡ Some c → StandsAt plant k from → (swaps : List OpenSwap) × (from ≡ Open swaps) × IsOpen plant c swaps
@@ -423,7 +537,15 @@ ends_open terms command no_drill old new c result from is goes makes later disk 
     let s = open_session old.plant old.controller c from is goes.stands in
     let m = makes old.plant.faults s.0 (omega arith) s.2 in
     subst (λ f. Ends terms command old new f result) (sym s.1)
-    (ends_of terms command old new (Open s.0) m.to result (begins_open terms command old.plant.faults no_drill old.plant new c s.0 (reply_if result) s.2 m) m.closed later disk m.device m.here m.opened runs memory (λ some. m.goes_on)
+    (ends_of terms command old new (Open s.0) m.to result (begins_open terms command old.plant.faults no_drill old.plant new c s.0 (reply_if result) s.2 m)
+    (record {
+      mid = c.lab;
+      after = m.own.3.0;
+      first = subst (λ (k : Option Control). IfSome k (λ x. c.lab ≡ x.lab)) (sym is) refl;
+      goes = subst (λ (drill : Option Drill). GoesFrom drill terms (with_more (trace_in old.plant.told) []) (piece_of command old.plant.faults (Open s.0) m.to [] m.own.0 (reply_if result)) c.lab m.own.3.0) (sym no_drill)
+          (inl (subst (λ t. OwnStep terms t (piece_of command old.plant.faults (Open s.0) m.to [] m.own.0 (reply_if result)) c.lab m.own.3.0) (sym (with_more-nil (trace_in old.plant.told))) m.own.3.1));
+      last = m.lab;
+    }) m.closed later disk m.device m.here m.opened runs memory (λ some. m.goes_on)
     (λ none going. map_both old.plant.told (λ t stands own. goes_behind c.lab c.lab (standing_lab t.trace c stands) refl
     (subst (λ l. WantsBehind terms.rule command l (record { limit = 2 ^ 32; devices = old.plant.faults.devices }) c.lab s.0 m.own.0) (sym (append-nil t.trace))
     (subst (λ n. WantsBehind terms.rule command t.trace (record { limit = n; devices = old.plant.faults.devices }) c.lab s.0 m.own.0) s.2.limit own))) s.2.works.working.work.stands (m.wants none going)))
@@ -438,7 +560,16 @@ unfolding begins_opened
 ends_opened terms command no_drill old new mid c result from is goes told there works limit passed makes later disk runs memory =
     let m = makes old.plant.faults [] passed.devices (record { works = works; limit = limit }) in
     closed_from terms command old new from result is goes
-    (ends_of terms command old new Closed m.to result (begins_opened terms command old.plant.faults no_drill old.plant.told mid new c (reply_if result) told there works.working.work limit m) m.closed later disk m.device (λ blamed. omega (arith, passed.devices, m.here blamed)) m.opened runs memory (λ some. m.goes_on)
+    (ends_of terms command old new Closed m.to result (begins_opened terms command old.plant.faults no_drill old.plant.told mid new c (reply_if result) told there works.working.work limit m)
+    (record {
+      mid = c.lab;
+      after = m.own.3.0;
+      first = subst (λ (k : Option Control). IfSome k (λ x. c.lab ≡ x.lab)) (sym is) tt;
+      goes = subst (λ (drill : Option Drill). GoesFrom drill terms (with_more (trace_in old.plant.told) (told.0 ++ told.1)) (piece_of command old.plant.faults Closed m.to (told.0 ++ told.1) m.own.0 (reply_if result)) c.lab m.own.3.0) (sym no_drill)
+          (inl (subst (λ t. OwnStep terms t (piece_of command old.plant.faults Closed m.to (told.0 ++ told.1) m.own.0 (reply_if result)) c.lab m.own.3.0) (ap trace_in told.2 ∙ trace_steps old.plant.told (told.0 ++ told.1))
+          (own_as terms (trace_in mid.told) command old.plant.faults (Open []) Closed m.to [] (told.0 ++ told.1) m.own.0 (reply_if result) c.lab m.own.3.0 refl m.own.3.1)));
+      last = m.lab;
+    }) m.closed later disk m.device (λ blamed. omega (arith, passed.devices, m.here blamed)) m.opened runs memory (λ some. m.goes_on)
     (λ none going. map_three old.plant.told (λ t o readable both.
     let w = is_opened t.trace told.0 told.1 c o both.0 limit readable in
     goes_behind w.start c.lab w.first (w.opens refl) both.1) told.3 there

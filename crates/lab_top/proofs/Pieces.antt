@@ -14,7 +14,7 @@ use Rattle.plant.specs.Disks.{disk, ArePossible}
 use Rattle.plant.specs.Events.{Event}
 use Rattle.plant.specs.declared.drill.Drill.{Drill}
 use Rattle.plant.specs.Seen.{Seen}
-use Rattle.plant.specs.Told.{Told, with_mark}
+use Rattle.plant.specs.Told.{Told, with_mark, with_steps}
 use Rattle.journal_model.specs.Journals.{gate_after, journal_length, size_of}
 use Rattle.records_model.specs.Works.{IsSound}
 use Rattle.swap_turns.proofs.Stood.{sound_not_bad, sound_follows, sound_room}
@@ -23,18 +23,20 @@ use Rattle.lab_state.proofs.Canonical.{texts_once}
 use Rattle.script_text.specs.declared.command.Command.{Command}
 use Rattle.script_text.specs.declared.reply.Reply.{Reply}
 use Rattle.script_text.specs.Replies.{text_of}
-use Rattle.lab_core.specs.Moments.{IsNoJournal, bad, cannot_follow, no_room}
+use Rattle.lab_core.specs.Moments.{IsNoJournal, bad, cannot_follow, no_room, trace_in, with_more}
 use Rattle.lab_core.specs.Controller.{Control}
-use Rattle.lab_core.specs.Sessions.{Session, Closed, Terms}
+use Rattle.lab_core.specs.Sessions.{Session, Closed, Terms, Open}
 use Rattle.lab_top.specs.declared.command.CommandFault.TheVariants as faults
 use Rattle.lab_top.specs.declared.status.Status.TheVariants as statuses
 use Rattle.lab_top.specs.declared.status.Status.{Status}
-use Rattle.lab_top.specs.Answering.{Moment, HasSession, Made, Answered, marked, piece_of}
-use Rattle.lab_top.specs.Pieces.{Begun, steps_of, commands_of, planned_of, trace_after, with_drill_if, with_piece, with_pieces, IsCaused, Counts, FindsNone, IsPiece, AreHandedOn, ArePieces, reply_text, reply_texts, session_after, WantsOnly}
+use Rattle.lab_top.specs.Answering.{Moment, HasSession, Made, Answered, marked, piece_of, StandsAt}
+use Rattle.lab_top.specs.Pieces.{Begun, steps_of, commands_of, planned_of, trace_after, with_drill_if, with_piece, with_pieces, IsCaused, Counts, FindsNone, IsPiece, AreHandedOn, ArePieces, reply_text, reply_texts, session_after, WantsOnly, GoesFrom, HandLabsOn, is_closed}
 use Rattle.lab_top.specs.Ran.{AreAnswered, BegunCommands, EndsSo, GoesOn, LastFindsNone, LastIsNot, Outside, Ran, WroteReplies, Answered as StatusAnswered}
 use Rattle.lab_words.specs.Words.{Choices, Usual}
-use Rattle.lab_top.proofs.Obeyed.{goes_closed, map_both, map_three}
+use Rattle.lab_top.proofs.Obeyed.{goes_closed, map_both, map_three, trace_steps}
 use Rattle.lab_top.proofs.Stepping.{all_some}
+use Rattle.records_model.specs.Labs.{LabState, at_first}
+use Rattle.script_text.specs.Drills.{drill_of}
 
 -- ONE PIECE MORE
 
@@ -118,12 +120,52 @@ unmarked : (told : Option Told) (faults : Faults) (P : List Event → Type 0) �
 unmarked None faults P h = tt
 unmarked (Some t) faults P h = h
 
+-- THE LABS, and the traces where they are told
+traces_after : Option (List Event) → List Begun → Option (List Event)
+traces_after trace [] = trace
+traces_after trace (b ∷ begun) = traces_after (with_more trace (steps_of b.piece)) begun
+
+traced_drill : (told : Option Told) (drill : Option Drill) → trace_in (with_drill_if told drill) ≡ trace_in told
+traced_drill None None = refl
+traced_drill None (Some drill) = refl
+traced_drill (Some t) None = refl
+traced_drill (Some t) (Some drill) = refl
+
+traced_mark : (told : Option Told) (faults : Faults) → trace_in (with_mark told faults) ≡ trace_in told
+traced_mark None faults = refl
+traced_mark (Some t) faults = refl
+
+traced : (told : Option Told) (begun : List Begun) → trace_in (with_pieces told begun) ≡ traces_after (trace_in told) begun
+unfolding traces_after
+traced told [] = refl
+traced told (b ∷ begun) =
+    traced (with_piece told b) begun
+    ∙ ap (λ (o : Option (List Event)). traces_after o begun)
+    (traced_drill (with_steps (with_mark told b.piece.faults) (steps_of b.piece)) (planned_of b) ∙ trace_steps (with_mark told b.piece.faults) (steps_of b.piece) ∙ ap (λ (o : Option (List Event)). with_more o (steps_of b.piece)) (traced_mark told b.piece.faults))
+
+labs-push : (terms : Terms) (trace : Option (List Event)) (first last : LabState) (begun : List Begun) (b : Begun) → HandLabsOn terms trace first begun last → (mid after : LabState) → (is_closed b.piece.from ≡ false → mid ≡ last)
+    → GoesFrom (drill_of b.piece.command) terms (with_more (traces_after trace begun) b.piece.opening) b.piece mid after → HandLabsOn terms trace first (begun ++ b ∷ []) after
+unfolding traces_after
+labs-push terms trace first last [] b is mid after from goes = (mid, after, λ open_now. from open_now ∙ is, goes, refl)
+labs-push terms trace first last (x ∷ begun) b are mid after from goes =
+    (are.0, are.1, are.2, are.3, labs-push terms (with_more trace (steps_of x.piece)) are.1 last begun b are.4 mid after from goes)
+
+-- where the session is open, its lab is that of the controller
+lab_there : (plant : Seen) (k : Option Control) (from : Session) (mid last : LabState) → StandsAt plant k from → IfSome k (λ c. mid ≡ c.lab) → IfSome k (λ c. c.lab ≡ last) → is_closed from ≡ false → mid ≡ last
+lab_there plant None Closed mid last at first then open_now = absurd (cc open_now)
+lab_there plant (Some c) (Open swaps) mid last at first then open_now = first ∙ then
+lab_there plant None (Open swaps) mid last at first then open_now = absurd at
+lab_there plant (Some c) Closed mid last at first then open_now = absurd at
+
 -- THE PIECES SO FAR, from the first moment to this one
 pub record PiecesSoFar (terms : Terms) (start now : Moment) (begun : List Begun) : Type 0 where
   pub told : now.plant.told ≡ with_pieces start.plant.told begun
   pub counts : Counts terms start.plant.faults begun now.plant.faults
   pub sessions : AreHandedOn Closed begun
   pub are : IfSome start.plant.told (λ t. ArePieces terms t.trace begun)
+  pub first : LabState
+  pub last : LabState
+  pub labs : HandLabsOn terms (trace_in start.plant.told) first begun last
 
 module _ (terms : Terms) (start before now : Moment) (begun : List Begun) (so : PiecesSoFar terms start before begun) (command : Command) (to : Session) (reply : Option Reply)
     (made : Made terms command (marked before) now (session_after Closed begun) to reply) where
@@ -138,26 +180,35 @@ module _ (terms : Terms) (start before now : Moment) (begun : List Begun) (so : 
   pub at_mark : (P : List Event → Type 0) → IfSome (marked before).plant.told (λ u. P u.trace) → IfSome start.plant.told (λ t. P (trace_after t.trace begun))
   at_mark P h = from_told start.plant.told before.plant.told begun so.told P (unmarked before.plant.told before.plant.faults P h)
 
-  pub one_more : PiecesSoFar terms start now (begun ++ next ∷ [])
-  one_more = record {
+  pub one_more : StandsAt before.plant before.controller (session_after Closed begun) → IfSome before.controller (λ c. c.lab ≡ so.last) → PiecesSoFar terms start now (begun ++ next ∷ [])
+  one_more stands lab = record {
     told = made.begun.told ∙ ap (λ (o : Option Told). with_piece o next) so.told ∙ sym (told-push start.plant.told begun next);
     counts = counts-push terms start.plant.faults before.plant.faults begun next so.counts refl
         (record { later = made.later; disk = made.disk; device = made.device; here = made.here; opened = made.opened; planned = made.begun.planned_by; shut = made.shut });
     sessions = sessions-push Closed begun next so.sessions refl;
     are = map_both start.plant.told (λ t are is. pieces-push terms t.trace begun next are is) so.are (at_mark (λ l. IsPiece terms l next.piece) made.begun.is_piece);
+    first = so.first;
+    last = made.labs.after;
+    labs =
+        labs-push terms (trace_in start.plant.told) so.first so.last begun next so.labs made.labs.mid made.labs.after
+        (lab_there before.plant before.controller (session_after Closed begun) made.labs.mid so.last stands made.labs.first lab)
+        (subst (λ (o : Option (List Event)). GoesFrom (drill_of command) terms (with_more o made.begun.opening) next.piece made.labs.mid made.labs.after)
+        (traced_mark before.plant.told before.plant.faults ∙ ap trace_in so.told ∙ traced start.plant.told begun) made.labs.goes);
   }
 
 -- THE RUN SO FAR: all commands that were begun are answered, and the session behind them stands
 pub record Going (terms : Terms) (start now : Moment) (first written : Option (List ℕ)) (begun : List Begun) : Type 0 where
   pub so : PiecesSoFar terms start now begun
   pub goes_on : HasSession now (session_after Closed begun)
+  pub lab : IfSome now.controller (λ c. c.lab ≡ so.last)
   pub answered : AreAnswered begun
   pub wrote : written ≡ append_known first (reply_texts begun)
   pub runs : start.plant.stopped ≡ false → now.plant.stopped ≡ false
 
 pub going_none : (terms : Terms) (start : Moment) (written : Option (List ℕ)) → start.controller ≡ None → Going terms start start written written []
 going_none terms start written none = record {
-  so = record { told = refl; counts = refl; sessions = tt; are = all_some start.plant.told (λ t. tt) };
+  so = record { told = refl; counts = refl; sessions = tt; are = all_some start.plant.told (λ t. tt); first = at_first; last = at_first; labs = refl };
+  lab = subst (λ (k : Option Control). IfSome k (λ c. c.lab ≡ at_first)) (sym none) tt;
   goes_on = subst (λ (k : Option Control). HasSession (record { plant = start.plant; controller = k }) Closed) (sym none) (goes_closed start.plant);
   answered = refl;
   wrote = sym (append_known-nil written);
@@ -182,6 +233,7 @@ begun_ran terms start now first new left rest status made ends begun not = recor
   counts = ends.0.counts;
   sessions = ends.0.sessions;
   goes_on = ends.4;
+  labs = (ends.0.first, ends.0.last, ends.0.labs);
   pieces = ends.0.are;
   ends = ends.1;
   sound = sound start.plant.told ends.0.told ends.0.are;
@@ -215,7 +267,11 @@ module _ (terms : Terms) (start before now : Moment) (first old new : Option (Li
     one = next terms start before now begun going.so command to reply made
 
     so_now : PiecesSoFar terms start now (begun ++ one ∷ [])
-    so_now = one_more terms start before now begun going.so command to reply made
+    so_now = one_more terms start before now begun going.so command to reply made going.goes_on.stands going.lab
+
+    last_now : so_now.last ≡ made.labs.after
+    unfolding so_now one_more
+    last_now = refl
 
   pub going_more : Answered terms command before now from old new taken (Ok tt) → (b : Begun) × (b.piece.command ≡ command) × Going terms start now first new (begun ++ b ∷ []) × TakenBy taken b
   going_more (reply, to, made, wrote, took) =
@@ -225,6 +281,7 @@ module _ (terms : Terms) (start before now : Moment) (first old new : Option (Li
         record {
           so = so_now to (Some reply) made;
           goes_on = subst (HasSession now) (sym (session-push Closed begun b)) (made.goes_on refl);
+          lab = some_weaker now.controller _ _ (λ c is. is ∙ sym (last_now to (Some reply) made)) made.labs.last;
           answered = answered-push begun b going.answered refl;
           wrote = wrote_more (text_of reply) wrote ∙ ap (append_known first) (sym (texts-push begun b));
           runs = λ was. made.runs refl (going.runs was);
@@ -264,7 +321,7 @@ module _ (terms : Terms) (start before now : Moment) (first old new : Option (Li
     begun,
     inl refl,
     (
-      record { told = ap (λ (p : Seen). p.told) still ∙ going.so.told; counts = subst (λ (p : Seen). Counts terms start.plant.faults begun p.faults) (sym still) going.so.counts; sessions = going.so.sessions; are = going.so.are },
+      record { told = ap (λ (p : Seen). p.told) still ∙ going.so.told; counts = subst (λ (p : Seen). Counts terms start.plant.faults begun p.faults) (sym still) going.so.counts; sessions = going.so.sessions; are = going.so.are; first = going.so.first; last = going.so.last; labs = going.so.labs },
       all_some start.plant.told (λ t runs. inl going.answered),
       inl going.answered,
       wrote ∙ going.wrote,

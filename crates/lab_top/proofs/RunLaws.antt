@@ -175,9 +175,9 @@ is_set : (a b : List ℕ) (s : LabState) (name : List ℕ) (e : Experiment) → 
 is_set a b s name e stand found = set_with name s e (lab_sane the_texts stand.records s stand.lab_of) s.lab refl found
 
 stays : (terms : Terms) (trace : List Event) (set : Setting) (s : LabState) (session : Session) (command : Command) (opening own : List Event) (after : After) (e : Experiment) → is_some s.lab ≡ true → find e.name s.experiments ≡ Some e
-    → (settles session command e.name ≡ true → is_moving e ≡ false) → is_about command e.name ≡ false → LabStep terms trace set s session command opening own after → find e.name after.lab.experiments ≡ Some e
+    → (settles session command e.name ≡ true → is_moving e ≡ false) → is_about command e.name ≡ false → LabStep terms (Some trace) set s session command opening own after → find e.name after.lab.experiments ≡ Some e
 stays terms trace set s session command opening own after e there found rests other step =
-    (all_stay terms trace set s session opening own after command e.name there other (λ settled x is. subst (λ (y : Experiment). is_moving y ≡ false) (same_Some _ _ (sym found ∙ is)) (rests settled)) step).same
+    (all_stay terms (Some trace) set s session opening own after command e.name there other (λ settled x is. subst (λ (y : Experiment). is_moving y ≡ false) (same_Some _ _ (sym found ∙ is)) (rests settled)) step).same
     ∙ found
 
 -- ONE PIECE
@@ -287,8 +287,8 @@ module _ (terms : Terms) (choices : Option Choices) (old new : Outside) (status 
     abbrev ends : After
     ends = record { reply = l.steps.told; lab = l.last; session = l.steps.session }
 
-    step_by : (command : Command) → b.piece.command ≡ command → LabStep terms trace set l.first b.piece.from command b.piece.opening own ends
-    step_by command asks = subst (λ (c : Command). LabStep terms trace set l.first b.piece.from c b.piece.opening own ends) asks l.steps.step
+    step_by : (command : Command) → b.piece.command ≡ command → LabStep terms (Some trace) set l.first b.piece.from command b.piece.opening own ends
+    step_by command asks = subst (λ (c : Command). LabStep terms (Some trace) set l.first b.piece.from c b.piece.opening own ends) asks l.steps.step
 
     -- a supplied solution
     pub swapped_in : AllMove (opens_of b.piece.from) l.first → (only : Bool) (exp text : List ℕ) (lines : ℕ) (reply : Reply) → b.piece.command ≡ SwapinWith only exp lines text → b.piece.reply ≡ Some reply
@@ -378,7 +378,7 @@ module _ (terms : Terms) (choices : Option Choices) (old new : Outside) (status 
             let steps = x.2 in
             let so = told_of terms trace b.piece x.0 x.1 steps reply replied in
             subst (λ l. CommandTells b.piece.command b.piece.opening l reply) (ap (λ l. b.piece.own ++ l) so.2 ∙ append-nil b.piece.own)
-            (all_stop terms trace _ x.0 b.piece.from b.piece.opening (b.piece.own ++ steps.behind) _ b.piece.command reply so.0 steps.step))
+            (all_stop terms (Some trace) _ x.0 b.piece.from b.piece.opening (b.piece.own ++ steps.behind) _ b.piece.command reply so.0 steps.step))
             (was_of is)
 
     pub undrilled_told : drill_of b.piece.command ≡ None → is_of_drill reply ≡ false
@@ -388,5 +388,5 @@ module _ (terms : Terms) (choices : Option Choices) (old new : Outside) (status 
         let now : Setting = record { length = steps.length; limit = 2 ^ 32; devices = b.piece.faults.devices } in
         let last : After = record { reply = steps.told; lab = x.1; session = steps.session } in
         ap of_drill_if (sym (told_of terms trace b.piece x.0 x.1 steps reply replied).0)
-        ∙ all_no_drill terms trace now x.0 b.piece.from b.piece.command b.piece.opening (b.piece.own ++ steps.behind) last is steps.step)
+        ∙ all_no_drill terms (Some trace) now x.0 b.piece.from b.piece.command b.piece.opening (b.piece.own ++ steps.behind) last is steps.step)
         (was_of is)

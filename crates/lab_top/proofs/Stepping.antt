@@ -155,8 +155,8 @@ module _ (terms : Terms) (trace : List Event) (piece : Piece) where
 
 -- A COMMAND THAT IS NO DRILL
 pub step_of : (terms : Terms) (trace : List Event) (set : Setting) (s : LabState) (from : Session) (command : Command) (opening own : List Event) (after : After) → drill_of command ≡ None
-    → StepOf None (DoesCommand terms.rule command (trace ++ opening) set) terms s from opening own after → LabStep terms trace set s from command opening own after
-step_of terms trace set s from command opening own after no_drill step = subst (λ (d : Option Drill). StepOf d (DoesCommand terms.rule command (trace ++ opening) set) terms s from opening own after) (sym no_drill) step
+    → StepOf None (DoesCommand terms.rule command (Some (trace ++ opening)) set) terms s from opening own after → LabStep terms (Some trace) set s from command opening own after
+step_of terms trace set s from command opening own after no_drill step = subst (λ (d : Option Drill). StepOf d (DoesCommand terms.rule command (Some (trace ++ opening)) set) terms s from opening own after) (sym no_drill) step
 
 -- WHAT AN OPEN CONTROLLER DOES OF ITS OWN
 module _ (terms : Terms) (mark : Faults) (before : List Event) (from : Session) (opening : List Event) (c : Control) (swaps : List OpenSwap) (w : WasOpened before from opening c swaps) (command : Command) (no_drill : drill_of command ≡ None) where
@@ -167,7 +167,7 @@ module _ (terms : Terms) (mark : Faults) (before : List Event) (from : Session) 
   Done trace own after = DoesCommand terms.rule command trace start.set swaps c.lab own after
 
   abbrev IsDoneOf : List Event → Option Reply → LabState → Session → Type 0
-  IsDoneOf own reply lab session = Done (before ++ opening) own (after_of reply lab session)
+  IsDoneOf own reply lab session = Done (Some (before ++ opening)) own (after_of reply lab session)
 
   abbrev of : List Event → Session → Option Reply → Piece
   of own to reply = piece_of command mark from to opening own reply
@@ -185,7 +185,7 @@ module _ (terms : Terms) (mark : Faults) (before : List Event) (from : Session) 
     behind = behind;
     is_told = is;
     step = w.step terms (record { length = length_of c.journal; limit = 2 ^ 32; devices = mark.devices }) command (own ++ behind) (after_of told lab session) no_drill
-        (subst (λ n. DoesCommand terms.rule command (before ++ opening) (record { length = length_of c.journal; limit = n; devices = mark.devices }) swaps c.lab (own ++ behind) (after_of told lab session)) w.limit done);
+        (subst (λ n. DoesCommand terms.rule command (Some (before ++ opening)) (record { length = length_of c.journal; limit = n; devices = mark.devices }) swaps c.lab (own ++ behind) (after_of told lab session)) w.limit done);
   }
 
   -- as its reply says
@@ -237,7 +237,7 @@ module _ (terms : Terms) (mark : Faults) (before : List Event) (from : Session) 
         (λ first. done_behind own Closed None now there new.lab steps (sound (w.sound first)) (standing_lab now new stands) (λ a b at. (w.start, new.lab, from_there, standing_all now new stands a b at, steps)) first)
 
     -- a reply closes it
-    pub own_closed : (reply : Reply) → leaves_one Closed (Some reply) ≡ false → Shuts Done (before ++ opening) own reply (λ a b. []) → AsRead now → Does terms before (of own Closed (Some reply))
+    pub own_closed : (reply : Reply) → leaves_one Closed (Some reply) ≡ false → Shuts Done (Some (before ++ opening)) own reply (λ a b. []) → AsRead now → Does terms before (of own Closed (Some reply))
     own_closed reply other leaves readable =
         does_behind own Closed (Some reply) leaves.lab (left_steps own reply leaves.lab (leaves.done [] [])) (λ open_now. absurd (cc open_now))
         (λ first.
@@ -246,7 +246,7 @@ module _ (terms : Terms) (mark : Faults) (before : List Event) (from : Session) 
         done_behind own Closed (Some reply) now there x.0 (left_steps own reply x.0 x.2) (sound (w.sound first)) x.1
         (subst (λ b. ImagesAt terms before (of own Closed (Some reply)) b now x.0) (sym other) (λ a b at. let y = image a b at in (w.start, y.0, from_there, y.1, left_steps own reply y.0 y.2))) first)
 
-    module _ (leaves : Shuts Done (before ++ opening) own replies.Stopped (λ a b. Restarted a b ∷ [])) where
+    module _ (leaves : Shuts Done (Some (before ++ opening)) own replies.Stopped (λ a b. Restarted a b ∷ [])) where
       -- the plant stopped, and is started again with an image
       pub own_stopped : (a b : List ℕ) → ArePossible now a b → Does terms before (of (own ++ Restarted a b ∷ []) Closed (Some replies.Stopped))
       own_stopped a b possible =

@@ -63,7 +63,7 @@ module _ (terms : Terms) (trace : List Event) (piece : Piece) (is : IsPiece term
       let at : Setting = record { length = s.length; limit = 2 ^ 32; devices = piece.faults.devices } in
       let own = piece.own ++ s.behind in
       let after : After = record { reply = s.told; lab = l.last; session = s.session } in
-      ⊎_elim (λ same. inl (ap opens_of is_to ∙ same)) (λ one. inr (others, is_to, at, one.0, one.1)) (all_leave terms trace at l.first piece.from piece.opening own after piece.command others ended s.step)
+      ⊎_elim (λ same. inl (ap opens_of is_to ∙ same)) (λ one. inr (others, is_to, at, one.0, one.1)) (all_leave terms (Some trace) at l.first piece.from piece.opening own after piece.command others ended s.step)
 
   told_to : (l : Leads terms trace piece) (reply : Option Reply) → piece.reply ≡ reply → is_some reply ≡ true → l.steps.session ≡ piece.to
   told_to l None told there = absurd (cc there)
@@ -217,13 +217,13 @@ abbrev TurnsOnly : List Event → Type 0
 TurnsOnly own = (own ≡ []) ⊎ IsTurn own
 
 turn_of : (terms : Terms) (trace : List Event) (set : Setting) (s : LabState) (from : Session) (exp : List ℕ) (opening own : List Event) (after : After) (reply : Reply) → after.reply ≡ Some reply → closes reply ≡ false → is_stopped reply ≡ false → is_closed from ≡ false
-    → LabStep terms trace set s from (commands.Turn exp) opening own after → TurnsOnly own
+    → LabStep terms (Some trace) set s from (commands.Turn exp) opening own after → TurnsOnly own
 turn_of terms trace set s Closed exp opening own after reply is goes runs open_now step = absurd (cc open_now)
 turn_of terms trace set s (Open opens) exp opening own after reply is goes runs open_now step =
     ⊎_elim (λ none. inl none) (λ turn. inr (one_turn own after reply is goes runs None terms set s opens (commands.Turn exp) [] exp refl turn)) (as_judged terms set s opens exp own after step.1)
 
 -- and always
-one_of : (terms : Terms) (trace : List Event) (set : Setting) (s : LabState) (from : Session) (exp : List ℕ) (opening own : List Event) (after : After) → LabStep terms trace set s from (commands.Turn exp) opening own after → SendsOneAtMost own
+one_of : (terms : Terms) (trace : List Event) (set : Setting) (s : LabState) (from : Session) (exp : List ℕ) (opening own : List Event) (after : After) → LabStep terms (Some trace) set s from (commands.Turn exp) opening own after → SendsOneAtMost own
 one_of terms trace set s Closed exp opening own after (opened mid opens done) = at_most_one terms set mid [] exp own after done
 one_of terms trace set s Closed exp opening own after (not_opened broke) = inl (ap has_command broke.nothing)
 one_of terms trace set s (Open opens) exp opening own after step = at_most_one terms set s opens exp own after step.1
@@ -244,8 +244,8 @@ module _ (terms : Terms) (choices : Option Choices) (old new : Outside) (status 
     abbrev all : List Event
     all = b.piece.own ++ steps.behind
 
-    step_by : LabStep terms trace set_of s b.piece.from (commands.Turn exp) b.piece.opening all ends
-    step_by = subst (λ (c : Command). LabStep terms trace set_of s b.piece.from c b.piece.opening all ends) asks steps.step
+    step_by : LabStep terms (Some trace) set_of s b.piece.from (commands.Turn exp) b.piece.opening all ends
+    step_by = subst (λ (c : Command). LabStep terms (Some trace) set_of s b.piece.from c b.piece.opening all ends) asks steps.step
 
   -- by what holds of the steps of a lab step
   by_steps : (P : List Event → Type 0) → P [] → ((s last : LabState) (steps : StepsFrom terms trace b.piece s last) → steps.told ≡ Some reply → P (b.piece.own ++ steps.behind)) → P b.piece.own
@@ -283,10 +283,10 @@ module _ (terms : Terms) (choices : Option Choices) (old new : Outside) (status 
       let ends : After = record { reply = steps.told; lab = last; session = steps.session } in
       let all : b.piece.own ++ steps.behind ≡ steps_of b.piece =
       ap (λ l. b.piece.own ++ l) (told_of terms past b.piece s last steps reply replied).2 ∙ append-nil b.piece.own ∙ ap (λ l. l ++ b.piece.own) (sym none) in
-      let step : LabStep terms past set s (Open opens) b.piece.command b.piece.opening (b.piece.own ++ steps.behind) ends =
-      subst (λ (f : Session). LabStep terms past set s f b.piece.command b.piece.opening (b.piece.own ++ steps.behind) ends) from steps.step in
+      let step : LabStep terms (Some past) set s (Open opens) b.piece.command b.piece.opening (b.piece.own ++ steps.behind) ends =
+      subst (λ (f : Session). LabStep terms (Some past) set s f b.piece.command b.piece.opening (b.piece.own ++ steps.behind) ends) from steps.step in
       subst Spared (ap (λ l. past ++ l) all ∙ sym (trace-push t.trace before b))
-      (others_spared terms past set s opens b.piece.command b.piece.opening (b.piece.own ++ steps.behind) ends past exp e (lab_sane the_texts at.records s at.lab_of) turns listed other step)
+      (others_spared terms (Some past) set s opens b.piece.command b.piece.opening (b.piece.own ++ steps.behind) ends past exp e (lab_sane the_texts at.records s at.lab_of) turns listed other step)
 
   spared_from : (from : Session) → b.piece.from ≡ from → is_closed from ≡ false → Spared (trace_after t.trace (before ++ b ∷ []))
   spared_from Closed is open_now = absurd (cc open_now)

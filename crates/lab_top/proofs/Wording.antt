@@ -21,6 +21,7 @@ use Rattle.lab_top.specs.Ran.{Answered, AreAnswered, AreFirst, BegunBy, BegunCom
 use Rattle.lab_top.specs.Tellers.{replies_of}
 use Rattle.lab_words.specs.Words.{Choices, Usual}
 use Rattle.lab_top.proofs.Stepping.{all_some}
+use Rattle.records_model.specs.Labs.{at_first}
 
 -- NOTHING WAS BEGUN
 still_sound : (told : Option Told) → IfSome told (λ t. IsSound the_texts t.trace → IfSome told (λ u. IsSound the_texts u.trace))
@@ -44,6 +45,7 @@ unbegun terms choices out = record {
   counts = refl;
   sessions = tt;
   goes_on = λ runs. tt;
+  labs = (at_first, at_first, refl);
   pieces = all_some out.plant.told (λ t. tt);
   ends = all_some out.plant.told (λ t runs. inl refl);
   sound = still_sound out.plant.told;
@@ -61,6 +63,7 @@ refused_so terms choices out is = record {
   counts = refl;
   sessions = tt;
   goes_on = λ runs. runs;
+  labs = (at_first, at_first, refl);
   pieces = all_some out.plant.told (λ t. tt);
   ends = all_some out.plant.told (λ t. tt);
   sound = still_sound out.plant.told;
@@ -79,6 +82,7 @@ as_chosen terms choices old new status made r = record {
   counts = r.counts;
   sessions = r.sessions;
   goes_on = r.goes_on;
+  labs = r.labs;
   pieces = r.pieces;
   ends = r.ends;
   sound = r.sound;
@@ -127,6 +131,7 @@ module _ (terms : Terms) (seed : ℕ) (a b : Outside) (was : Status) (made : Lis
     counts = r.counts;
     sessions = r.sessions;
     goes_on = goes_on;
+    labs = r.labs;
     pieces = r.pieces;
     ends = ends;
     sound = r.sound;

@@ -25,14 +25,14 @@ use Rattle.script_text.specs.Drills.{drill_of}
 use Rattle.script_text.specs.Replies.{text_of}
 use Rattle.lab_core.specs.Controller.{Control, WorksWith}
 use Rattle.lab_core.specs.Commands.{DoesCommand, LabStep}
-use Rattle.lab_core.specs.Moments.{IsLabAt}
+use Rattle.lab_core.specs.Moments.{IsLabAt, trace_in, with_more}
 use Rattle.lab_core.specs.Recovery.{Opens}
 use Rattle.lab_core.specs.Sessions.{OpenSwap, Session, Closed, Open, Setting, After, AreOpenedBy, counted_from, Terms}
 use Rattle.lab_judge.specs.OpenNames.{name_of}
 use Rattle.lab_core.specs.Tells.{opens_of}
 use Rattle.lab_top.specs.declared.command.CommandFault.{CommandFault}
 use Rattle.lab_top.specs.declared.command.CommandFault.TheVariants.{Memory, WriteFault, JournalBad}
-use Rattle.lab_top.specs.Pieces.{Piece, FindsNone, IsDone, IsPiece, IsPlannedBy, Leads, Later, StepsFrom, WantsBehind, WantsOnly, blames_if, blames_now_if, closes_if, is_closed, may_shut, stays_open, with_drill_if}
+use Rattle.lab_top.specs.Pieces.{Piece, FindsNone, IsDone, IsPiece, IsPlannedBy, Leads, Later, StepsFrom, WantsBehind, WantsOnly, blames_if, blames_now_if, closes_if, is_closed, may_shut, stays_open, with_drill_if, GoesFrom, OwnStep}
 
 -- what is seen of the plant between two commands, and the controller where it is open
 pub record Moment : Type 0 where
@@ -76,8 +76,8 @@ pub record WasOpened (trace : List Event) (from : Session) (opening : List Event
   pub sound : IsSound the_texts trace → IsSound the_texts (trace ++ opening)
   pub limit : limit_of c.journal ≡ 2 ^ 32
   pub opens : from ≡ Closed → Opens start opening c.lab
-  pub step : (terms : Terms) (set : Setting) (command : Command) (own : List Event) (after : After) → drill_of command ≡ None → DoesCommand terms.rule command (trace ++ opening) set swaps c.lab own after
-      → LabStep terms trace set start from command opening own after
+  pub step : (terms : Terms) (set : Setting) (command : Command) (own : List Event) (after : After) → drill_of command ≡ None → DoesCommand terms.rule command (Some (trace ++ opening)) set swaps c.lab own after
+      → LabStep terms (Some trace) set start from command opening own after
 
 -- what an open controller does of a command, however it was opened
 pub record Does (terms : Terms) (trace : List Event) (piece : Piece) : Type 0 where
@@ -89,8 +89,13 @@ abbrev pub DoesOwn : Terms → List Event → Command → Faults → Control →
 DoesOwn terms trace command mark c swaps own to reply = (before : List Event) (from : Session) (opening : List Event) → trace ≡ before ++ opening → WasOpened before from opening c swaps
     → Does terms before (piece_of command mark from to opening own reply)
 
+-- over every plant: a lab step, to that lab
+abbrev pub DoesEver : Terms → Option (List Event) → Command → Faults → Control → List OpenSwap → List Event → Session → Option Reply → Type 0
+DoesEver terms trace command mark c swaps own to reply = (after : LabState) × OwnStep terms trace (piece_of command mark (Open swaps) to [] own reply) c.lab after
+
 abbrev pub OwnTold : Terms → Option Told → Option Told → Command → Faults → Control → List OpenSwap → Session → Option Reply → Type 0
-OwnTold terms old new command mark c swaps to reply = (own : List Event) × (new ≡ with_steps old own) × IfSome old (λ t. DoesOwn terms t.trace command mark c swaps own to reply)
+OwnTold terms old new command mark c swaps to reply =
+    (own : List Event) × (new ≡ with_steps old own) × IfSome old (λ t. DoesOwn terms t.trace command mark c swaps own to reply) × DoesEver terms (trace_in old) command mark c swaps own to reply
 
 -- the count of device faults at the mark is at most that of the moment, which an opening may come before
 abbrev pub IsMarkAt : Faults → Seen → Type 0
@@ -104,6 +109,7 @@ reply_if (Err fault) = None
 pub record Makes (terms : Terms) (mark : Faults) (command : Command) (old : Seen) (c : Control) (swaps : List OpenSwap) (new : Moment) (reply : Option Reply) : Type 0 where
   pub to : Session
   pub own : OwnTold terms old.told new.plant.told command mark c swaps to reply
+  pub lab : IfSome new.controller (λ d. d.lab ≡ own.3.0)
   pub shut : is_closed to ≡ true → may_shut reply ≡ true
   pub closed : stays_open reply ≡ false → to ≡ Closed
   pub device : blames_if reply ≡ true → Rose (counted_from swaps (name_of command) mark.devices) new.plant.faults.devices
@@ -138,8 +144,17 @@ pub record Begins (terms : Terms) (command : Command) (mark : Faults) (old new :
   pub planned_by : IsPlannedBy terms (drill_of command) planned reply
   pub is_piece : IfSome old (λ t. IsPiece terms t.trace (piece_of command mark from to opening own reply))
 
+-- THE LAB IS HANDED ON, over every plant: from that of the controller before the command, where it was open, to that of the one behind it
+pub record HandsLab (terms : Terms) (told : Option Told) (piece : Piece) (old new : Option Control) : Type 0 where
+  pub mid : LabState
+  pub after : LabState
+  pub first : IfSome old (λ c. mid ≡ c.lab)
+  pub goes : GoesFrom (drill_of piece.command) terms (with_more (trace_in told) piece.opening) piece mid after
+  pub last : IfSome new (λ c. c.lab ≡ after)
+
 pub record Made (terms : Terms) (command : Command) (old new : Moment) (from to : Session) (reply : Option Reply) : Type 0 where
   pub begun : Begins terms command old.plant.faults old.plant.told new.plant.told from to reply
+  pub labs : HandsLab terms old.plant.told (piece_of command old.plant.faults from to begun.opening begun.own reply) old.controller new.controller
   pub later : Later old.plant.faults new.plant.faults
   pub disk : closes_if reply ≡ true → Rose old.plant.faults.disk new.plant.faults.disk
   pub device : blames_if reply ≡ true → Rose (counted_from (opens_of from) (name_of command) old.plant.faults.devices) new.plant.faults.devices

@@ -1,5 +1,5 @@
 -- Pieces: what a command does, from its mark to its reply.
-use Rattle.std.specs.Prelude.{◌≡◌, ◌⊎◌, ◌<◌, ◌≤◌, ◌+◌, ◌-◌, ◌*◌, ◌^◌, ℕ, Bool, true, false, ◌&&◌, not, is_some, List, [], ◌∷◌, ◌++◌, map, Option, Some, None, Ok, if◌then◌else◌}
+use Rattle.std.specs.Prelude.{◌≡◌, ◌⊎◌, ◌<◌, ◌≤◌, ◌+◌, ◌-◌, ◌*◌, ◌^◌, ℕ, Bool, true, false, ◌&&◌, not, is_some, List, [], ◌∷◌, ◌++◌, map, Option, Some, None, Ok, if◌then◌else◌, IfSome}
 use Rattle.std.specs.List.{flat_map}
 use Rattle.lab_base.specs.Lists.{Has}
 use Rattle.lab_base.specs.Counts.{Rose}
@@ -16,7 +16,7 @@ use Rattle.plant.specs.declared.step.Side.TheVariants.{A, B}
 use Rattle.virt_topo.specs.declared.experiment.Experiment.{Experiment}
 use Rattle.virt_topo.specs.declared.experiment.Phase.{Phase}
 use Rattle.journal_model.specs.Appends.{other_side}
-use Rattle.records_model.specs.Labs.{LabState, find, is_out}
+use Rattle.records_model.specs.Labs.{LabState, find, is_out, Sane}
 use Rattle.records_model.specs.Works.{IsSound}
 use Rattle.journal_disk.specs.Before.{are_synced}
 use Rattle.journal_disk.specs.Opening.{both_synced}
@@ -32,12 +32,12 @@ use Rattle.script_text.specs.Replies.{text_of, closes, blames_device}
 use Rattle.lab_core.specs.Recovery.{Opens, OpensInPart, Reads, SettlesFirst, reading as in_reading, settling as in_settling, shifting as in_shifting}
 use Rattle.lab_core.specs.Commands.{LabStep, is_about}
 use Rattle.cost_rule.specs.declared.rule.RuleNumber.{RuleNumber}
-use Rattle.lab_core.specs.Compaction.{IsPlaced, IsToMove, packed_length}
-use Rattle.lab_core.specs.Moments.{IsFoundAt, IsNoJournal, IsLabAt, IsLabOfImage, AllStandFor, StandForLab, IsLengthAt, IsLiveAt}
+use Rattle.lab_core.specs.Compaction.{IsPackedAt, IsPlaced, IsToMove, packed_length}
+use Rattle.lab_core.specs.Moments.{IsFoundAt, IsNoJournal, IsLabAt, IsLabOfImage, AllStandFor, StandForLab, IsLengthAt, IsLiveAt, IsLengthBehind, with_more}
 use Rattle.lab_core.specs.Breaks.{Breaks}
 use Rattle.lab_core.specs.Opening.{IsJournal, MakesFirst, has_change}
 use Rattle.lab_core.specs.Said.{IsAsSaid}
-use Rattle.lab_core.specs.Tells.{BeginsAt, is_in, opens_of}
+use Rattle.lab_core.specs.Tells.{BeginsAt, is_in, opens_of, TellsBroken}
 use Rattle.lab_core.specs.Lists.{Ground, Past}
 use Rattle.lab_core.specs.PlayList.{JudgedPlay, events_in_turn}
 use Rattle.lab_judge.specs.Playing.{Playing}
@@ -109,9 +109,10 @@ abbrev pub blames_now_if : Option Reply → Bool
 blames_now_if None = false
 blames_now_if (Some reply) = blames_now reply
 
--- the session stays open only behind a reply that doesn't close it, and is closed only behind one that closes it, behind `stopped`, or where there is none
+-- the session stays open only behind a reply that neither closes it nor is `stopped`, and is closed only behind one that is so, or where there is none
 abbrev pub stays_open : Option Reply → Bool
 stays_open None = false
+stays_open (Some Stopped) = false
 stays_open (Some reply) = not (closes reply)
 
 abbrev pub may_shut : Option Reply → Bool
@@ -135,7 +136,7 @@ IsPlannedBy terms (Some drill) planned reply = IsPlannedAs terms.takes planned r
 -- that opened the experiment's swap, or where none is open since that of this one; and since that of this one where it blames it for what the command
 -- itself sent. Each swap that is open behind the command was open before it, with its count, and the reply does not tell that it has ended; or the reply
 -- tells that it has begun, of the command's own experiment, and its count is that at the mark. A drill is planned as its reply tells. Behind a reply that
--- closes, and where there is none, the session is closed.
+-- closes, behind `stopped`, and where there is none, the session is closed.
 pub record IsCaused (terms : Terms) (b : Begun) : Type 0 where
   pub later : Later b.piece.faults b.later
   pub disk : closes_if b.piece.reply ≡ true → Rose b.piece.faults.disk b.later.disk
@@ -164,7 +165,8 @@ session_after session (b ∷ begun) = session_after b.piece.to begun
 
 -- BEHIND AN OPENING THE JOURNAL IS COMPACT, in that lab: it is at most a mebibyte long, or more than half of it is needed without the lab's past, or its
 -- epoch is the last one. Where a side was live before the opening, the same one is so with the same epoch, or it was moved onto the other side, with
--- the next epoch. Where both sides were blank, the one to be so or to be moved from is side A, with epoch 1.
+-- the next epoch, and has exactly the records of the lab without its past. Where both sides were blank, the one to be so or to be moved from is side A,
+-- with epoch 1.
 pub record IsCompact (trace opening : List Event) (mid : LabState) : Type 0 where
   pub lab : IsLabAt (trace ++ opening) mid
   pub length : ℕ
@@ -173,7 +175,8 @@ pub record IsCompact (trace opening : List Event) (mid : LabState) : Type 0 wher
   pub epoch : ℕ
   pub live : IsLiveAt (trace ++ opening) side epoch
   pub small : (length ≤ 1048576) ⊎ ((length < 2 * packed_length mid) ⊎ (2 ^ 64 - 1 ≤ epoch))
-  pub moved : (was : Side) (old : ℕ) → IsFoundAt trace was old → ((side ≡ was) × (epoch ≡ old)) ⊎ ((side ≡ other_side was) × (epoch ≡ old + 1))
+  pub moved : (was : Side) (old : ℕ) → IsFoundAt trace was old
+      → ((side ≡ was) × (epoch ≡ old)) ⊎ ((side ≡ other_side was) × (epoch ≡ old + 1) × IsPackedAt (trace ++ opening) mid)
 
 -- WHAT AN OPENING WRITES, cuts or sends beside its settlings: a part that reads makes a new journal alone, and that only where both sides are blank;
 -- then they are so still behind it, or side A is live, with epoch 1
@@ -254,7 +257,7 @@ pub record StepsFrom (terms : Terms) (trace : List Event) (piece : Piece) (s aft
   pub session : Session
   pub behind : List Event
   pub is_told : ButForReply piece.reply piece.to told session behind
-  pub step : LabStep terms trace (record { length = length; limit = 2 ^ 32; devices = piece.faults.devices }) s piece.from piece.command piece.opening (piece.own ++ behind) (record { reply = told; lab = after; session = session })
+  pub step : LabStep terms (Some trace) (record { length = length; limit = 2 ^ 32; devices = piece.faults.devices }) s piece.from piece.command piece.opening (piece.own ++ behind) (record { reply = told; lab = after; session = session })
 
 -- the first lab is that of the moment; where the plant stopped in an opening before both sides were synced, that of an image
 abbrev pub is_closed : Session → Bool
@@ -328,9 +331,9 @@ pub record IsPiece (terms : Terms) (trace : List Event) (piece : Piece) : Type 0
 -- an experiment is ended by it.
 abbrev pub ListsFirst : RuleNumber → Command → List Event → Ground → LabState → List OpenSwap → List Event → Type 0
 ListsFirst rule (Play exp from until lines text) trace base s opens own =
-    (start at : Playing) × JudgedPlay s opens exp from until text (Ok start) × ((after : LabState) × (to : List OpenSwap) × Past (events_in_turn exp) base trace start s opens own at after to)
+    (start at : Playing) × JudgedPlay s opens exp from until text (Ok start) × ((after : LabState) × (to : List OpenSwap) × Past (events_in_turn exp) base (Some trace) start s opens own at after to)
 ListsFirst rule (Batch moment lines text) trace base s opens own =
-    (start at : Serving) × JudgedBatch s text (Ok start) × ((after : LabState) × (to : List OpenSwap) × Past (runs_in_turn rule moment) base trace start s opens own at after to)
+    (start at : Serving) × JudgedBatch s text (Ok start) × ((after : LabState) × (to : List OpenSwap) × Past (runs_in_turn rule moment) base (Some trace) start s opens own at after to)
 ListsFirst rule command trace base s opens own = ⊥
 
 abbrev pub WantsBehind : RuleNumber → Command → List Event → Ground → LabState → List OpenSwap → List Event → Type 0
@@ -391,6 +394,40 @@ TellsAll reply later trace = Unit {0}
 abbrev pub ArePieces : Terms → List Event → List Begun → Type 0
 ArePieces terms trace [] = Unit {0}
 ArePieces terms trace (b ∷ begun) = IsPiece terms trace b.piece × ArePieces terms (trace ++ steps_of b.piece) begun
+
+-- OVER EVERY PLANT, whether it tells its past or not
+
+-- A COMMAND'S OWN PART IS A LAB STEP of an open session, from the lab at which it begins to the one behind it: by a length of the journal that is within
+-- its limit, and where the trace is told up to this part, that of the sides there. One that isn't answered is such a step but for its reply.
+pub record OwnStep (terms : Terms) (trace : Option (List Event)) (piece : Piece) (mid after : LabState) : Type 0 where
+  pub sane : Sane mid
+  pub length : ℕ
+  pub length_is : IsLengthBehind trace [] (2 ^ 32) length
+  pub told : Option Reply
+  pub session : Session
+  pub behind : List Event
+  pub is_told : ButForReply piece.reply piece.to told session behind
+  pub step : LabStep terms trace (record { length = length; limit = 2 ^ 32; devices = piece.faults.devices }) mid (Open (opens_of piece.from)) piece.command [] (piece.own ++ behind) (record { reply = told; lab = after; session = session })
+
+-- its opening broke off, and nothing of its own was done
+pub record NotOpened (piece : Piece) : Type 0 where
+  pub closed : piece.from ≡ Closed
+  pub nothing : piece.own ≡ []
+  pub shut : piece.to ≡ Closed
+  pub tells : IfSome piece.reply TellsBroken
+
+-- WHAT A COMMAND DOES of its own, from one lab to another; a drill leaves the lab, and the session where it is answered
+abbrev pub GoesFrom : Option Drill → Terms → Option (List Event) → Piece → LabState → LabState → Type 0
+GoesFrom (Some drill) terms trace piece mid after = (after ≡ mid) × (is_some piece.reply ≡ true → piece.to ≡ piece.from)
+GoesFrom None terms trace piece mid after = OwnStep terms trace piece mid after ⊎ NotOpened piece
+
+-- THE LAB OF THE SESSION IS HANDED ON, from one lab to the last: a command that finds the session open begins at the lab that the one before it left; one
+-- that opens it begins at that to which its opening led
+abbrev pub HandLabsOn : Terms → Option (List Event) → LabState → List Begun → LabState → Type 0
+HandLabsOn terms trace s [] last = last ≡ s
+HandLabsOn terms trace s (b ∷ begun) last =
+    (mid : LabState) × (after : LabState) × (is_closed b.piece.from ≡ false → mid ≡ s) × GoesFrom (drill_of b.piece.command) terms (with_more trace b.piece.opening) b.piece mid after
+    × HandLabsOn terms (with_more trace (steps_of b.piece)) after begun last
 
 -- the text of the reply, if there is one
 abbrev pub text_if : Option Reply → List ℕ

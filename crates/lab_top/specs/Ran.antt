@@ -17,13 +17,15 @@ use Rattle.script_text.specs.Taking.{IsWithin}
 use Rattle.lab_top.specs.declared.status.Status.{Status}
 use Rattle.lab_top.specs.declared.status.Status.TheVariants.{Done, ReadFault, WriteFault, Usage, BadScript, Memory, JournalBad}
 use Rattle.lab_core.specs.Sessions.{Closed, Terms}
-use Rattle.lab_top.specs.Pieces.{Begun, AreHandedOn, ArePieces, Counts, FindsNone, commands_of, trace_after, with_pieces, reply_text, reply_texts, WantsOnly}
+use Rattle.lab_top.specs.Pieces.{Begun, AreHandedOn, ArePieces, Counts, FindsNone, commands_of, trace_after, with_pieces, reply_text, reply_texts, WantsOnly, HandLabsOn}
 use Rattle.lab_top.specs.Tellers.{replies_of}
 use Rattle.lab_gen.specs.Script.{generated}
 use Rattle.lab_gen.specs.Summary.{summary}
 use Rattle.lab_words.specs.Words.{Choices, Usual}
 use Rattle.cost_rule.specs.declared.rule.RuleNumber.{RuleNumber}
 use Rattle.cost_rule.specs.declared.rule.RuleNumber.TheVariants.{Trunk}
+use Rattle.lab_core.specs.Moments.{trace_in}
+use Rattle.records_model.specs.Labs.{LabState}
 
 -- the outside: what the source has left, what is seen of the plant, and what was written
 pub record Outside : Type 0 where
@@ -185,6 +187,8 @@ pub record Ran (terms : Terms) (choices : Option Choices) (old new : Outside) (s
   -- the session is closed at first, and handed on
   pub sessions : AreHandedOn Closed made
   pub goes_on : old.plant.stopped ≡ false → GoesOn status new.plant.stopped
+  -- over every plant, one that tells nothing too, each command is a lab step of its own part, and the lab of the session is handed on
+  pub labs : (first : LabState) × (last : LabState) × HandLabsOn terms (trace_in old.plant.told) first made last
   -- over any trace each command finds the journal as its piece says, and is a lab step, from the lab of the moment before it to that of the moment after
   -- it, where it leaves the session open; over one that is sound at the entry each is
   pub pieces : IfSome old.plant.told (λ t. ArePieces terms t.trace made)

@@ -2,22 +2,16 @@
 use Rattle.std.specs.Prelude.{◌≡◌, List, [], ◌++◌}
 use Rattle.plant.specs.Disks.{disk}
 use Rattle.plant.specs.Events.{Event}
-use Rattle.plant.specs.Worlds.{World, world_of}
+use Rattle.plant.specs.Worlds.{world_of}
 use Rattle.plant.specs.declared.step.Side.{Side}
 use Rattle.phys_lab.specs.Labs.{Lab}
 use Rattle.virt_topo.specs.declared.experiment.Experiment.{Experiment}
 use Rattle.lab_model.specs.OnCourse.{own_events}
-use Rattle.records_model.specs.Labs.{LabState, lab_in}
-use Rattle.lab_audit.specs.Diff.{IsDiff, IsKnown, TellsSwitches}
+use Rattle.records_model.specs.Labs.{LabState}
 use Rattle.script_text.specs.declared.reply.AuditLine.{AuditLine}
+use Rattle.lab_core.specs.Auditing.{IsReport}
 use Rattle.lab_core.specs.Moments.{IsLabAt}
 use Rattle.lab_top.specs.Pieces.{Piece, steps_of}
-
--- A REPORT of a world beside a lab: its lines of switches are exactly those of the difference, and where the world leaves open no state that is compared,
--- it is the difference
-pub record IsReport (w : World) (s : LabState) (report : List AuditLine) : Type 0 where
-  pub switches : TellsSwitches (lab_in s.lab) s.experiments w report
-  pub exact : IsKnown (lab_in s.lab) s.experiments w → IsDiff (lab_in s.lab) s.experiments w report
 
 -- LINES TELL THE DIFFERENCE at a moment: they are a report of its world, beside the lab that the sides stand for
 pub record TellsDifference (trace : List Event) (lines : List AuditLine) : Type 0 where

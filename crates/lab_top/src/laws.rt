@@ -31,7 +31,7 @@ ghost use Rattle.lab_core.specs.PlayTells.{PlayTells};
 ghost use Rattle.lab_core.specs.Recovery.{EndedIn, HasRecovered};
 ghost use Rattle.recovery.specs.Due.{swaps_of};
 ghost use Rattle.lab_core.specs.Sessions.{OpenSwap, Closed, open_at, Terms};
-ghost use Rattle.lab_core.specs.Tells.{BeginsAt, IsAtRest, busy_of, IsFeasibleFor, IsInBy, Hinders, is_of_drill, is_stopped, IsTurn, IsTurnOf, SendsOne, opens_of, taken_reply, TellsBroken};
+ghost use Rattle.lab_core.specs.Tells.{BeginsAt, IsAtRest, busy_of, IsFeasibleFor, IsInBy, Hinders, is_of_drill, is_stopped, IsThere, IsTurn, IsTurnOf, SendsOne, opens_of, taken_reply, TellsBroken};
 ghost use Rattle.plant.specs.Events.{Event, Unread};
 ghost use Rattle.lab_top.specs.Reports.{ChangesNothing, TellsDifference};
 ghost use Rattle.lab_top.specs.Pieces.{Begun, Piece, TellsAll, AllHave, AllRestBut, AreAll, AreOn, AreOthers, FirstLab, HasOpened, OpensTo, StayOpen, is_closed, is_early, session_after, steps_of, trace_after};
@@ -56,8 +56,9 @@ pub fn bad_journals()
 
 /// A supplied solution is swapped in, or its swap begins where `open` stands before the command, exactly where it is feasible on the free rest of the
 /// lab behind the opening. Else the reply tells what hindered it.
-/// What a line of a reply to `batch` tells is so like what any reply tells, if no later run of that batch is of the experiment; and so is what the reply
-/// tells that ended a `play`, and that the experiment is in, where none did.
+/// A line of a reply to `batch` tells what is so, like any reply, if no later run of that batch is of the experiment; and so does the reply that ended a
+/// `play`, and where none did, the experiment is in. Where such a reply closes the controller, its earlier lines hold too, in each image that
+/// a later stop may leave.
 /// An experiment that doesn't move stays as it is, in every image that a later stop may leave, until a later command on it.
 /// The reply is `stopped` exactly where the plant stopped, and a command that is no drill has no reply of a drill, both whatever the trace was
 /// before. The empty trace is sound.
@@ -88,6 +89,19 @@ pub fn runs()
         → Ran terms choices old new status (before ++ b ∷ (middle ++ after)) → old.plant.told ≡ Some t → IsSound the_texts t.trace
         → b.piece.command ≡ Play exp from until lines text → b.piece.reply ≡ Some (Played name count last closing blaming) → closing ≡ false
         → PlayTells (λ is exp. AreOthers exp middle → AreAll is (trace_after t.trace (before ++ b ∷ middle)) exp) exp (Played name count last closing blaming) }
+    ensures lines_left { (terms : Terms) (choices : Option Choices) (old new : Outside) (status : Status) (before middle after : List Begun) (b : Begun)
+        (t : Told) (moment lines : ℕ) (text : List ℕ) (served : Served)
+        → Ran terms choices old new status (before ++ b ∷ (middle ++ after)) → old.plant.told ≡ Some t → IsSound the_texts t.trace
+        → b.piece.command ≡ Batch moment lines text → b.piece.reply ≡ Some (Lines served)
+        → (x y : List ℕ) → ArePossible (trace_after t.trace (before ++ b ∷ middle)) x y
+        → (u : LabState) × StandForLab x y u × BatchTells (λ is exp. AreOthers exp middle → IsThere is u exp) text served }
+    ensures played_left { (terms : Terms) (choices : Option Choices) (old new : Outside) (status : Status) (before middle after : List Begun) (b : Begun)
+        (t : Told) (exp name text last : List ℕ) (from until lines count : ℕ) (closing blaming : Bool)
+        → Ran terms choices old new status (before ++ b ∷ (middle ++ after)) → old.plant.told ≡ Some t → IsSound the_texts t.trace
+        → b.piece.command ≡ Play exp from until lines text → b.piece.reply ≡ Some (Played name count last closing blaming)
+        → (x y : List ℕ) → ArePossible (trace_after t.trace (before ++ b ∷ middle)) x y
+        → (u : LabState) × StandForLab x y u
+        × PlayTells (λ is own. AreOthers own middle → IsThere is u own) exp (Played name count last closing blaming) }
     ensures inside { (terms : Terms) (choices : Option Choices) (old new : Outside) (status : Status) (before after : List Begun) (b : Begun) (t : Told)
         (exp text : List ℕ) (lines : ℕ)
         → Ran terms choices old new status (before ++ b ∷ after) → old.plant.told ≡ Some t → IsSound the_texts t.trace

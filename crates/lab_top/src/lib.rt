@@ -5,6 +5,7 @@ mod command;
 mod commands;
 mod generated;
 mod laws;
+mod plants;
 mod session;
 mod status;
 mod tellers;
@@ -12,5 +13,6 @@ mod top;
 
 pub use lab_words::{Place, PlaceFault, place_of};
 pub use laws::{audits, bad_journals, recoveries, runs, turns};
+pub use plants::every_plant;
 pub use status::Status;
 pub use top::labctl;

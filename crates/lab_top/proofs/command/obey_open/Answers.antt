@@ -15,9 +15,9 @@ returns-in-Ok-clause-makes g c = λ mark swaps at is.
     elim c.if-not-closes.branch [
       | then-not-closes w ↦
           let goes : closes c.in-Ok.reply ≡ false = cc (c.closes.ensures, w.if-not-closes.true) in
-          rw w.controller-is (makes_on _ mark old mid c.args.command.now c.requires.no_drill c.args.opened c.obey.new.self swaps c.in-Ok.reply o goes (o.limit ∙ is.limit) (ok_runs c.in-Ok.reply mid.stopped (o.stopped c.requires.runs)))
+          rw w.controller-is (makes_on _ mark old mid c.args.command.now c.requires.no_drill c.args.opened c.obey.new.self swaps is c.in-Ok.reply o goes (o.limit ∙ is.limit) (ok_runs c.in-Ok.reply mid.stopped (o.stopped c.requires.runs)))
       | else-not-closes w ↦
-          rw w.controller-is (rw c.requires.taken (makes_off _ mark old mid c.args.command.now c.requires.no_drill c.args.opened c.obey.new.self swaps c.in-Ok.reply o (cc (c.closes.ensures, w.if-not-closes.false)) (g.met.P.Plant.reads_possible c.obey.new.plant)))
+          rw w.controller-is (rw c.requires.taken (makes_off _ mark old mid c.args.command.now c.requires.no_drill c.args.opened c.obey.new.self swaps is c.in-Ok.reply o (cc (c.closes.ensures, w.if-not-closes.false)) (g.met.P.Plant.reads_possible c.obey.new.plant)))
     ]
 
 pub returns-in-Err-Stopped-clause-makes : goal.returns-in-Err-Stopped-clause-makes
@@ -25,7 +25,7 @@ returns-in-Err-Stopped-clause-makes g c = λ mark swaps at is.
     let o = (rw c.in-Err-Stopped.field-0-is at c.in-Err-Stopped.ensures).obeys swaps mark.devices at is.works in
     let old = g.P.Plant.seen c.args.plant.now in
     let mid = g.P.Plant.seen c.obey.new.plant in
-    rw c.requires.taken (makes_stopped _ mark old mid c.args.command.now c.requires.no_drill c.args.opened c.obey.new.self swaps _ c.start_again.result o c.start_again.ensures.starts
+    rw c.requires.taken (makes_stopped _ mark old mid c.args.command.now c.requires.no_drill c.args.opened c.obey.new.self swaps is _ c.start_again.result o c.start_again.ensures.starts
     (g.met.P.Plant.reads_possible c.obey.new.plant) (halts_if c.start_again.result _ c.start_again.ensures.halts))
 
 pub returns-clause-makes : goal.returns-clause-makes
@@ -33,7 +33,7 @@ returns-clause-makes g c = λ mark swaps at is.
     let o = (rw c.in-Err-Memory.field-0-is at c.in-Err-Memory.ensures).obeys swaps mark.devices at is.works in
     let old = g.P.Plant.seen c.args.plant.now in
     let mid = g.P.Plant.seen c.obey.new.plant in
-    rw c.requires.taken (makes_not _ mark old mid c.args.command.now c.requires.no_drill c.args.opened c.obey.new.self swaps o)
+    rw c.requires.taken (makes_not _ mark old mid c.args.command.now c.requires.no_drill c.args.opened c.obey.new.self swaps is o)
 
 pub returns-in-Ok-clause-runs : goal.returns-in-Ok-clause-runs
 returns-in-Ok-clause-runs g c = let o = c.in-Ok.ensures.obeys c.requires.open.0 0 (omega arith) c.requires.open.1.works in ok_runs c.in-Ok.reply _ (o.stopped c.requires.runs)
