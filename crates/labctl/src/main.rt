@@ -4,6 +4,7 @@
 //! its own, and writes a summary.
 #![tactic(auto)]
 
+use lab_base::TextFault;
 use lab_io::{StdSink, StdSource};
 use lab_top::{Place, PlaceFault, Status, labctl, place_of};
 use plant::Side;
@@ -22,6 +23,14 @@ fn words_of(rt: &HostRuntime) -> io::Result<Vec<String>> {
     Ok(words)
 }
 
+/// The reason why there are no words: one that isn't UTF-8 is no word of a command line.
+fn no_words(error: &io::Error) -> Status {
+    match error.kind() {
+        io::ErrorKind::InvalidData => Status::Usage,
+        _ => Status::Memory,
+    }
+}
+
 /// Obeys the script of standard input over a plant.
 fn run_over<P: Tables>(rt: &HostRuntime, words: &[String], plant: &mut P) -> Status {
     let mut source = StdSource::new(rt);
@@ -36,16 +45,31 @@ fn run_in_memory(rt: &HostRuntime, words: &[String]) -> Status {
     }
 }
 
+/// Tells on standard error that `tables` has a line of another form, where a call read one.
+fn tell_tables(rt: &HostRuntime, refused: Option<TextFault>) -> io::Result<()> {
+    match refused {
+        Some(TextFault { line, kind }) => {
+            eprintln!(rt; "labctl: bad tables line {line} {}", kind.word())
+        }
+        None => Ok(()),
+    }
+}
+
 fn run_in_folder(rt: &HostRuntime, words: &[String], dir: &str) -> Status {
     match FileLab::new(rt, dir) {
-        Ok(mut plant) => run_over(rt, words, &mut plant),
+        Ok(mut plant) => {
+            let status = run_over(rt, words, &mut plant);
+            let _told = tell_tables(rt, plant.refused());
+            status
+        }
         Err(_) => Status::Memory,
     }
 }
 
 fn run(rt: &HostRuntime) -> Status {
-    let Ok(words) = words_of(rt) else {
-        return Status::Memory;
+    let words = match words_of(rt) {
+        Ok(words) => words,
+        Err(error) => return no_words(&error),
     };
     match place_of(rt.alloc(), &words) {
         Ok(Place::Blank) => run_in_memory(rt, &words),

@@ -126,9 +126,18 @@ fn words_of(rt: &HostRuntime) -> io::Result<Vec<String>> {
     Ok(words)
 }
 
+/// The reason why there are no words: one that isn't UTF-8 is no word of a command line.
+fn no_words(error: &io::Error) -> End {
+    match error.kind() {
+        io::ErrorKind::InvalidData => End::Usage,
+        _ => End::Memory,
+    }
+}
+
 fn run(rt: &HostRuntime) -> End {
-    let Ok(words) = words_of(rt) else {
-        return End::Memory;
+    let words = match words_of(rt) {
+        Ok(words) => words,
+        Err(error) => return no_words(&error),
     };
     match words.as_slice() {
         [dir, ptop, to] => run_on(rt, dir.as_str(), ptop.as_str(), to.as_str()),

@@ -148,9 +148,18 @@ fn words_of(rt: &HostRuntime) -> io::Result<Vec<String>> {
     Ok(words)
 }
 
+/// The reason why there are no words: one that isn't UTF-8 is no word of a command line.
+fn no_words(error: &io::Error) -> End {
+    match error.kind() {
+        io::ErrorKind::InvalidData => End::Usage,
+        _ => End::Memory,
+    }
+}
+
 fn run(rt: &HostRuntime) -> End {
-    let Ok(words) = words_of(rt) else {
-        return End::Memory;
+    let words = match words_of(rt) {
+        Ok(words) => words,
+        Err(error) => return no_words(&error),
     };
     match read_words(rt.alloc(), &words) {
         Ok(asked) => run_on(rt, asked),

@@ -1,1 +1,3 @@
+mod Back
 mod Pasts
+mod Written

@@ -1,3 +1,4 @@
+pub mod Losses
 pub mod MemFolders
 pub mod MemPossible
 pub mod MemTold

@@ -13,9 +13,6 @@ use Rattle.lab_base.specs.Lists.{Has, Apart}
 use Rattle.lab_base.proofs.Members.{Has-place, Has-get_or}
 use Rattle.plant_tables.specs.Readings.{IsListOf}
 
-contained : {X : Type 0} (xs : List X) (x : X) → Has xs x → Contains xs x
-contained xs x h = Has-place xs x x h
-
 has : {X : Type 0} (xs : List X) (x : X) → Contains xs x → Has xs x
 has xs x (k, lt, e) = subst (λ v. Has xs v) e (Has-get_or xs k x lt)
 
@@ -38,8 +35,8 @@ module _ {X : Type 0} {R : X → X → Ordering} (total : IsTotalOrder R) {E : X
       record {
         rising = apart left (subst (IsStrictlySortedBy R) (sym is) (IsStrictlySortedBy-dedup total ties sorted in_order));
         exact = λ x. (
-          (λ h. (exact x).0 (has raw x (Contains-permutation sorted raw x (IsPermutation-sym raw sorted permuted) (Contains-from_dedup E sorted x (contained (dedup E sorted) x (subst (λ (l : List X). Has l x) is h)))))),
-          (λ s. subst (λ (l : List X). Has l x) (sym is) (has (dedup E sorted) x (Contains-dedup equiv same sorted x (Contains-permutation raw sorted x permuted (contained raw x ((exact x).1 s)))))),
+          (λ h. (exact x).0 (has raw x (Contains-permutation sorted raw x (IsPermutation-sym raw sorted permuted) (Contains-from_dedup E sorted x (Has-place (dedup E sorted) x x (subst (λ (l : List X). Has l x) is h)))))),
+          (λ s. subst (λ (l : List X). Has l x) (sym is) (has (dedup E sorted) x (Contains-dedup equiv same sorted x (Contains-permutation raw sorted x permuted (Has-place raw x x ((exact x).1 s)))))),
         );
       }
 

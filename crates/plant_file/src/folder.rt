@@ -6,7 +6,7 @@ ghost use Rattle.plant.specs.Events.{Event, Did, Missed, Restarted, Unread};
 ghost use Rattle.plant.specs.declared.step.Side.TheVariants.{A, B};
 ghost use Rattle.plant_file.specs.Folders.{Held, with_steps, with_mark, made_sure, IsDurable, IsSent};
 
-use lab_base::{Memory, Name};
+use lab_base::{Memory, Name, TextFault};
 use plant::{Answer, DeviceOp, Fault, Faults, Side};
 
 /// The files of a lab's folder: the two sides of the journal, and a text of tables.
@@ -94,6 +94,11 @@ pub trait Folder {
     /// Notes a reading that failed.
     fn unread(&mut self, device: Name)
         ensures told { told self.new ≡ with_steps (told self.old) (Unread device ∷ []) }
+        ensures still { is_stopped self.new ≡ is_stopped self.old };
+
+    /// Notes that the text is of no tables, by its first line of another form.
+    fn refused(&mut self, fault: TextFault)
+        ensures told { told self.new ≡ told self.old }
         ensures still { is_stopped self.new ≡ is_stopped self.old };
 
     /// Notes the present moment.

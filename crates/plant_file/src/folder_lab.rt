@@ -7,7 +7,7 @@ ghost use Rattle.plant_file.specs.Standing.{Keeps, AreOf};
 use crate::folder::Folder;
 use crate::std_folder::StdFolder;
 use crate::tables::Tables;
-use lab_base::Memory;
+use lab_base::{Memory, TextFault};
 use plant::Faults;
 use std::alloc::{AllocGlobal, Global};
 use std::fs::File;
@@ -49,6 +49,15 @@ impl<R: Files<File = File> + AllocGlobal + Clone + Drop> FolderLab<StdFolder<R>>
                 devices: 0,
             },
         })
+    }
+}
+
+impl<R: Files<File = File> + AllocGlobal + Drop> FolderLab<StdFolder<R>> {
+    /// The first line of another form of the tables, where a call read such a text: the last one that did.
+    pub fn refused(&self) -> Option<TextFault>
+        ensures { result ≡ self.now.folder.refused }
+    {
+        self.folder.refused
     }
 }
 

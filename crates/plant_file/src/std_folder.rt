@@ -6,7 +6,7 @@ use crate::folder::Folder;
 use crate::paths::Paths;
 use crate::std_files::{cut_to, length_of, make, open, read_at, sync_folder, write_at};
 use crate::std_texts::{Durable, Stamp};
-use lab_base::{Memory, Name};
+use lab_base::{Memory, Name, TextFault};
 use plant::{Answer, DeviceOp, Fault, Faults, Side};
 use std::alloc::AllocGlobal;
 use std::fs::File;
@@ -24,6 +24,8 @@ pub struct StdFolder<R: Files<File = File> + AllocGlobal + Drop> {
     pub(crate) listed: bool,
     pub(crate) stamp: Option<Stamp>,
     pub(crate) durable: Durable,
+    /// The first line of another form of the last text that had one.
+    pub(crate) refused: Option<TextFault>,
 }
 
 /// An answer of std's.
@@ -48,6 +50,7 @@ impl<R: Files<File = File> + AllocGlobal + Drop> StdFolder<R> {
             listed: false,
             stamp: None,
             durable: Durable::Unknown,
+            refused: None,
         })
     }
 
@@ -172,6 +175,10 @@ impl<R: Files<File = File> + AllocGlobal + Drop> Folder for StdFolder<R> {
     fn miss(&mut self, _side: Side) {}
 
     fn unread(&mut self, _device: Name) {}
+
+    fn refused(&mut self, fault: TextFault) {
+        self.refused = Some(fault);
+    }
 
     fn mark(&mut self, _faults: Faults) -> Result<(), Memory> {
         Ok(())

@@ -88,7 +88,7 @@ fn make_room(bytes: &mut Vec<u8>, most: usize, more: usize) -> Result<(), Memory
 
 impl Face {
     ghost use Rattle.std.specs.Prelude.{◌≡◌, ◌≤◌, ◌<◌, ◌+◌, [], ℕ, length, take, reverse, IfOk, OnOk, vec_len, vec_capacity};
-    ghost use Rattle.plant.specs.Disks.{at_once, wrote, synced, shortened};
+    ghost use Rattle.plant.specs.Disks.{at_once, wrote, synced, shortened, IsImage};
     ghost use Rattle.plant_mem.specs.Picks.{left_by, torn};
     ghost use Rattle.plant_mem.specs.Faces.{disk_of, HasMore};
 
@@ -169,6 +169,7 @@ impl Face {
         requires reads { vec_len self.old.durable ≤ vec_capacity self.old.reads }
         requires durable { vec_len self.old.reads ≤ vec_capacity self.old.durable }
         ensures left { disk_of self.new ≡ at_once (left_by pick (disk_of self.old)) }
+        ensures possible { IsImage (disk_of self.old) (left_by pick (disk_of self.old)) }
         ensures more { (writes bytes : ℕ) → HasMore writes bytes self.old → HasMore writes bytes self.new }
     {
         match pick {

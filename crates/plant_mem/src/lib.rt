@@ -17,4 +17,5 @@ mod row_table;
 mod rows;
 mod stops;
 
+pub use face::Face;
 pub use mem::MemLab;
