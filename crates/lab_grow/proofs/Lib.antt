@@ -2,6 +2,7 @@ mod Carrying
 mod Naming
 mod Cabling
 mod Staying
+mod Parting
 mod Looking
 mod Over
 mod Among
