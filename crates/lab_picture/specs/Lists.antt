@@ -1,5 +1,5 @@
 -- The lists below a lab: its VLAN ids, and its experiments.
-use Rattle.std.specs.Prelude.{ℕ, false, ◌+◌, ◌-◌, ◌==◌, if◌then◌else◌, List, [], ◌++◌, length, flat_map, codes, decimal, slice_get, Option, Some, None}
+use Rattle.std.specs.Prelude.{ℕ, false, ◌+◌, ◌-◌, max, ◌==◌, if◌then◌else◌, List, [], ◌++◌, length, flat_map, codes, decimal, slice_get, Option, Some, None}
 use Rattle.std.specs.List.{range_with_len}
 use Rattle.lab_view.specs.declared.view.View.{View}
 use Rattle.lab_view.specs.declared.view.Exp.{Exp}
@@ -21,9 +21,9 @@ use Rattle.lab_picture.specs.Places.{point_at, mark_at}
 use Rattle.lab_picture.specs.Shapes.{area_of, rect, filled, label}
 use Rattle.lab_picture.specs.Machines.{tint_word, bar_word, coloured}
 
--- how wide a run of so many ids is on the strip
+-- how wide a run of so many ids is on the strip, at least 2 pixels
 unfoldable pub run_wide : Geometry → ℕ → ℕ → ℕ
-run_wide g k n = mark_at g.marks (k + n) - mark_at g.marks k
+run_wide g k n = max (mark_at g.marks (k + n) - mark_at g.marks k) 2
 
 -- a run in the colours of its owner's bar and tint
 unfoldable pub run_area : Geometry → ℕ → ℕ → ℕ → ℕ → Area

@@ -1,6 +1,6 @@
 -- Machines, as they are drawn.
-use Rattle.std.specs.Prelude.{ℕ, Bool, true, ◌+◌, ◌-◌, ◌*◌, ◌/◌, ◌%◌, ◌==◌, nat_le, if◌then◌else◌, List, [], ◌∷◌, ◌++◌, length, map, flat_map, codes, decimal, slice_get, Option, Some, None}
-use Rattle.std.specs.List.{list_all}
+use Rattle.std.specs.Prelude.{ℕ, Bool, true, ◌+◌, ◌-◌, ◌*◌, ◌/◌, ◌%◌, ◌==◌, nat_le, if◌then◌else◌, List, [], ◌∷◌, ◌++◌, length, map, flat_map, codes, decimal, take, slice_get, Option, Some, None}
+use Rattle.std.specs.List.{list_any, list_all, range_with_len}
 use Rattle.lab_view.specs.declared.view.View.{View}
 use Rattle.lab_view.specs.declared.view.Machine.{Machine}
 use Rattle.lab_view.specs.declared.view.Seat.{Seat}
@@ -101,15 +101,21 @@ letters_in wide = (wide - 18) * 100 / 542
 abbrev pub type_words : List ℕ × ℕ → List ℕ
 type_words t = 32 ∷ t.0 ++ 58 ∷ decimal t.1
 
-abbrev pub plug_words : View → ℕ → List ℕ
-plug_words v switch = 32 ∷ switch_name v switch
+-- a switch is named at the first interface that is on it
+abbrev pub plug_words : View → List ℕ → Option ℕ → List ℕ
+plug_words v before None = []
+plug_words v before (Some switch) = if list_any (λ m. m == switch) before then [] else 32 ∷ switch_name v switch
+
+abbrev pub plug_at : View → List ℕ → ℕ → List ℕ
+plug_at v plugs n = plug_words v (take n plugs) (slice_get plugs n)
 
 unfoldable pub holder_words : View → Option Seat → List ℕ
 holder_words v None = []
 holder_words v (Some s) = 10 ∷ exp_name v s.exp ++ flat_map spaced s.guests
 
 unfoldable pub tip : View → Machine → List ℕ
-tip v m = tag tags.Title ++ m.name ++ flat_map type_words m.types ++ codes "\non" ++ flat_map (plug_words v) m.plugs ++ holder_words v m.seat ++ tag tags.TitleEnd
+tip v m = tag tags.Title ++ m.name ++ flat_map type_words m.types ++ codes "\non" ++ flat_map (plug_at v m.plugs) (range_with_len 0 (length m.plugs))
+    ++ holder_words v m.seat ++ tag tags.TitleEnd
 
 -- a free machine, with its types; and one that is held, with the experiment and the virtual nodes
 unfoldable pub free_body : Place → Machine → List ℕ

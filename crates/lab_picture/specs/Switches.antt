@@ -16,18 +16,18 @@ counted free count = if count == 0 then codes "no machines" else decimal free ++
 unfoldable pub count_words : View → ℕ → List ℕ
 count_words v switch = counted (free_under v switch) (count_under v switch)
 
--- A CARD of a switch
-unfoldable pub card_text : List ℕ → View → ℕ → Card → List ℕ
-card_text class v switch c = tag tags.Rounded ++ class ++ area_text (area_of c.place) ++ label (codes "n") c.words.x c.words.y (switch_name v switch)
-    ++ label (codes "c") c.words.x (c.words.y + 15) (count_words v switch)
+-- A CARD of a switch, with words below its name
+unfoldable pub card_text : List ℕ → List ℕ → View → ℕ → Card → List ℕ
+card_text class words v switch c = tag tags.Rounded ++ class ++ area_text (area_of c.place)
+    ++ label (codes "n") c.words.x c.words.y (switch_name v switch) ++ label (codes "c") c.words.x (c.words.y + 15) words
 
 abbrev pub card_in : View → ℕ → Option Card → List ℕ
 card_in v switch None = []
-card_in v switch (Some c) = card_text (codes "card") v switch c
+card_in v switch (Some c) = card_text (codes "card") (count_words v switch) v switch c
 
 -- a second card, before the machines of a switch that has further switches, and the line that leads there
 unfoldable pub echo_text : View → ℕ → Echo → List ℕ
-echo_text v switch e = tag tags.Own ++ way_text e.way ++ card_text (codes "card echo") v switch e.card
+echo_text v switch e = tag tags.Own ++ way_text e.way ++ card_text (codes "card echo") (codes "own machines") v switch e.card
 
 abbrev pub echo_of : View → ℕ → Option Echo → List ℕ
 echo_of v switch None = []

@@ -15,7 +15,7 @@ use lab_view::{
 };
 use std::alloc::Global;
 
-/// How wide a run of so many ids is on the strip.
+/// How wide a run of so many ids is on the strip: at least wide enough to be seen.
 #[tactic(auto, unfolding(crate::specs::Lists::run_wide))]
 fn run_wide(geometry: &Geometry, first: usize, count: usize) -> u64
     requires { first + count < 2 ^ 64 }
@@ -23,7 +23,9 @@ fn run_wide(geometry: &Geometry, first: usize, count: usize) -> u64
 {
     let marks = geometry.marks.as_slice();
     let left = u64::from(mark_at(marks, first));
-    u64::from(mark_at(marks, first + count)).saturating_sub(left)
+    u64::from(mark_at(marks, first + count))
+        .saturating_sub(left)
+        .max(2)
 }
 
 #[tactic(auto, unfolding(crate::specs::Lists::run_area))]

@@ -1,10 +1,10 @@
 // Machines, as they are drawn.
-ghost use Rattle.std.specs.Prelude.{◌≡◌, ◌++◌, nat_le, length, map, flat_map, slice_get, IfOk, OnOk};
-ghost use Rattle.std.specs.List.{range_with_len};
+ghost use Rattle.std.specs.Prelude.{◌≡◌, ◌++◌, ◌<◌, ◌==◌, nat_le, length, map, flat_map, slice_get, IfOk, OnOk};
+ghost use Rattle.std.specs.List.{list_any, range_with_len};
 ghost use Rattle.lab_view.specs.Views.{switch_name, exp_name};
 ghost use Rattle.lab_view.specs.Lines.{spaced};
 ghost use Rattle.lab_picture.specs.Shapes.{fitted};
-ghost use Rattle.lab_picture.specs.Machines.{names_text, first_name, listed, letters_in, type_words, plug_words, holder_words, tip, free_body, held_words, held_body, body, first_of, is_one, corner, corner_of, held_class, class_of, machine_text, machine_at};
+ghost use Rattle.lab_picture.specs.Machines.{names_text, first_name, listed, letters_in, type_words, plug_at, holder_words, tip, free_body, held_words, held_body, body, first_of, is_one, corner, corner_of, held_class, class_of, machine_text, machine_at};
 
 use crate::bars::push_coloured;
 use crate::geometry::{Geometry, Place, place_at};
@@ -116,12 +116,31 @@ fn push_types(text: &mut Text, types: &[(Name, u16)]) -> Result<(), Memory>
     Ok(())
 }
 
-fn push_plugs(text: &mut Text, view: &View, plugs: &[usize]) -> Result<(), Memory>
-    ensures { OnOk result (text.new ≡ text.old ++ flat_map (plug_words view.now) plugs.now) }
+fn is_among(plugs: &[usize], plug: usize) -> bool
+    ensures { result ≡ list_any (λ m. m == plug) plugs.now }
 {
-    for plug in plugs {
+    plugs.iter().any(|own| *own == plug)
+}
+
+/// A blank and the switch of the interface of that number, where none before it is on that switch.
+fn push_plug_at(text: &mut Text, view: &View, plugs: &[usize], number: usize) -> Result<(), Memory>
+    requires { number < length plugs.now }
+    ensures { OnOk result (text.new ≡ text.old ++ plug_at view.now plugs.now number) }
+{
+    if is_among(&plugs[..number], plugs[number]) {
+        Ok(())
+    } else {
         text.push(b' ')?;
-        text.push_bytes(switch_name(view, *plug))?;
+        text.push_bytes(switch_name(view, plugs[number]))
+    }
+}
+
+#[tactic(auto, using(lab_base::proofs::Lists::flat_map_range))]
+fn push_plugs(text: &mut Text, view: &View, plugs: &[usize]) -> Result<(), Memory>
+    ensures { OnOk result (text.new ≡ text.old ++ flat_map (plug_at view.now plugs.now) (range_with_len 0 (length plugs.now))) }
+{
+    for number in 0..plugs.len() {
+        push_plug_at(text, view, plugs, number)?;
     }
     Ok(())
 }

@@ -38,26 +38,25 @@ fn count_words(alloc: Global, view: &View, switch: usize) -> Result<Text, Memory
     Ok(text)
 }
 
-/// A card of a switch.
+/// A card of a switch, with words below its name.
 #[tactic(auto, unfolding(crate::specs::Switches::card_text))]
 fn push_card(
-    alloc: Global,
     text: &mut Text,
     class: &[u8],
+    words: &[u8],
     view: &View,
     switch: usize,
     card: &Card,
 ) -> Result<(), Memory>
-    ensures { OnOk result (text.new ≡ text.old ++ card_text class.now view.now switch card.now) }
+    ensures { OnOk result (text.new ≡ text.old ++ card_text class.now words.now view.now switch card.now) }
 {
     let x = u64::from(card.words.x);
     let y = u64::from(card.words.y);
-    let count = count_words(alloc, view, switch)?;
     text.push_bytes(tag(Piece::Rounded))?;
     text.push_bytes(class)?;
     push_area(text, area_of(card.place))?;
     push_label(text, b"n", x, y, switch_name(view, switch))?;
-    push_label(text, b"c", x, y + 15, count.bytes())
+    push_label(text, b"c", x, y + 15, words)
 }
 
 fn push_card_in(
@@ -69,29 +68,31 @@ fn push_card_in(
 ) -> Result<(), Memory>
     ensures { OnOk result (text.new ≡ text.old ++ card_in view.now switch (slice_get geometry.now.cards switch)) }
 {
+    let words = count_words(alloc, view, switch)?;
     match geometry.cards.as_slice().get(switch) {
-        Some(card) => push_card(alloc, text, b"card", view, switch, card),
+        Some(card) => push_card(text, b"card", words.bytes(), view, switch, card),
         None => Ok(()),
     }
 }
 
+/// The second card of a switch, before its own machines, and the line that leads there.
 #[tactic(auto, unfolding(crate::specs::Switches::echo_text))]
-fn push_echo(
-    alloc: Global,
-    text: &mut Text,
-    view: &View,
-    switch: usize,
-    echo: &Echo,
-) -> Result<(), Memory>
+fn push_echo(text: &mut Text, view: &View, switch: usize, echo: &Echo) -> Result<(), Memory>
     ensures { OnOk result (text.new ≡ text.old ++ echo_text view.now switch echo.now) }
 {
     text.push_bytes(tag(Piece::Own))?;
     push_way(text, &echo.way)?;
-    push_card(alloc, text, b"card echo", view, switch, &echo.card)
+    push_card(
+        text,
+        b"card echo",
+        b"own machines",
+        view,
+        switch,
+        &echo.card,
+    )
 }
 
 fn push_echo_in(
-    alloc: Global,
     text: &mut Text,
     view: &View,
     switch: usize,
@@ -100,13 +101,12 @@ fn push_echo_in(
     ensures { OnOk result (text.new ≡ text.old ++ echo_of view.now switch echo.now) }
 {
     match echo {
-        Some(echo) => push_echo(alloc, text, view, switch, echo),
+        Some(echo) => push_echo(text, view, switch, echo),
         None => Ok(()),
     }
 }
 
 fn push_echo_at(
-    alloc: Global,
     text: &mut Text,
     geometry: &Geometry,
     view: &View,
@@ -115,7 +115,7 @@ fn push_echo_at(
     ensures { OnOk result (text.new ≡ text.old ++ echo_at geometry.now view.now switch) }
 {
     match geometry.echoes.as_slice().get(switch) {
-        Some(echo) => push_echo_in(alloc, text, view, switch, echo),
+        Some(echo) => push_echo_in(text, view, switch, echo),
         None => Ok(()),
     }
 }
@@ -130,7 +130,7 @@ fn push_switch_at(
     ensures { OnOk result (text.new ≡ text.old ++ switch_at geometry.now view.now switch) }
 {
     push_card_in(alloc, text, geometry, view, switch)?;
-    push_echo_at(alloc, text, geometry, view, switch)
+    push_echo_at(text, geometry, view, switch)
 }
 
 /// All switches.

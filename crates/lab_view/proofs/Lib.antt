@@ -1,1 +1,3 @@
 mod Holders
+mod Leading
+mod Firsts

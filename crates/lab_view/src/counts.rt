@@ -1,5 +1,5 @@
 // The free part of a lab.
-ghost use Rattle.std.specs.Prelude.{◌≡◌, find};
+ghost use Rattle.std.specs.Prelude.{◌≡◌, IsTrue, find, slice_get};
 ghost use Rattle.lab_view.specs.Views.{times, is_most, home_of, is_under, is_lone, is_unheld, is_free_under, is_held_by, free_machines, count_under, free_under, free_ids};
 
 use crate::view::{Machine, View};
@@ -18,9 +18,24 @@ fn is_most(numbers: &[usize], number: usize) -> bool
     numbers.iter().all(|own| times(*own, numbers) <= most)
 }
 
+/// Whether the first number is more than half of a list.
+fn leads(numbers: &[usize]) -> bool
+    ensures { IsTrue result → find (is_most numbers.now) numbers.now ≡ slice_get numbers.now 0 }
+{
+    match numbers {
+        [first, ..] => times(*first, numbers) > numbers.len() / 2,
+        [] => false,
+    }
+}
+
+/// The first number that no other stands more often than. Where it leads, no other is counted: mostly all interfaces of a machine
+/// are on one switch.
 fn first_most(numbers: &[usize]) -> Option<usize>
     ensures { result ≡ find (is_most numbers.now) numbers.now }
 {
+    if leads(numbers) {
+        return numbers.first().copied();
+    }
     numbers.iter().copied().find(|own| is_most(numbers, *own))
 }
 
