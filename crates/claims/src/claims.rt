@@ -14,7 +14,7 @@ use std::marker::Model;
 /// The most experiments of a lab. There is room for as many claims from the start.
 pub const MAX_EXPERIMENTS: usize = 256;
 
-/// The claims of all experiments on a lab, at most one for each.
+/// The claims of all experiments on a lab, at most one for each. The fields are private, so that the tables stay those of the claims.
 #[derive(Drop)]
 pub struct Claims {
     pub(crate) range: (u16, u16),

@@ -19,6 +19,8 @@ pub enum RuleNumber {
 pub type CostFn = Box<dyn Fn(&Lab, &Wiring, &Mapping) -> u64>;
 
 /// A rule: it answers a mapping's cost by its number, which contracts see and no call gives.
+///
+/// It keeps a boxed closure, and isn't generic over it: no field may cite what a bound on closures has.
 #[derive(Drop)]
 pub struct Rule {
     pub(crate) number: RuleNumber,

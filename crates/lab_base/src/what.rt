@@ -1,6 +1,6 @@
 use crate::{Boot, Name};
 
-/// The trouble that a swap meets.
+/// The trouble that a swap meets, as its states and the replies about it tell it.
 #[derive(Clone, Copy, PartialEq, Eq)]
 pub enum What {
     /// A command to that device failed.

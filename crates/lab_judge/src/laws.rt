@@ -8,7 +8,7 @@ ghost use Rattle.assign_core.specs.declared.whole.Solved.{Solved};
 ghost use Rattle.lab_judge.specs.EventChanges.{EventsAreChanges};
 ghost use Rattle.lab_judge.specs.Judge.{AreLocal, IsFound};
 
-/// A search has one answer, unless there are more than 65,536 candidates and FirstFit is feasible. Then each answer is locally best, and costs at
+/// A search has one answer, unless there are more than 65,536 choices and FirstFit is feasible. Then each answer is locally best, and costs at
 /// most every map of the walk of the seed.
 pub fn searches()
     ensures { (rule : RuleNumber) (lab : Lab) (es : List Experiment) (e : Experiment) (w : Wiring) (seed : ℕ) (a b : Solved)

@@ -29,6 +29,8 @@ impl LabState {
     }
 
     /// The lab of a list of records. `Bad` comes exactly where one can't follow, with the number of the first such record, from 0.
+    ///
+    /// The names of the records are names, as the journal reads and writes them.
     pub fn replay(alloc: Global, records: &[Found]) -> Result<LabState, ReplayFault>
         requires { (found : AnyFound) → Has records.now found → IsRecord found.entry }
         ensures ok { IfOk result (λ lab. LabOf the_texts (records_of records.now) lab.state) }

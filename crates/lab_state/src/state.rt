@@ -99,6 +99,8 @@ impl LabState {
     }
 
     /// Judges a record, and makes room for its change. `Bad` comes exactly where it can't follow. On an error the state is as it was.
+    ///
+    /// The record stays the caller's, who encodes it next. Its names are names, as the journal reads and writes them.
     pub fn prepare(&mut self, entry: &Record) -> Result<Prepared, PrepareFault>
         requires { IsRecord entry.now }
         ensures ok { IfOk result (λ prepared. Follows the_texts self.old.state entry.now (after self.old.state prepared)) }

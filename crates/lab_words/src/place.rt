@@ -33,7 +33,7 @@ impl From<AllocError> for PlaceFault {
     }
 }
 
-/// The place that words choose: the folder of `--dir DIR`, else memory.
+/// The place that words choose: the folder of `--dir DIR`, else memory. A function can't be named as the type `Place` but for case.
 pub fn place_of(alloc: Global, words: &[String]) -> Result<Place, PlaceFault>
     ensures { IsPlace (choices_of words.now) result }
 {

@@ -8,7 +8,9 @@ use std::marker::Model;
 /// A node, and one of its types.
 pub type Place = (NodeId, Name);
 
-/// By virtual node the places that it may have, in the lab's order. Virtual nodes of one kind share a list.
+/// By virtual node the places that it may have, in the lab's order.
+///
+/// A candidate is a number in one list of the lab's places, which virtual nodes of one kind share. So the fields are private, and calls give the places.
 #[derive(Drop)]
 pub struct Candidates {
     /// The places of the lab.

@@ -12,6 +12,8 @@ use lab_base::Memory;
 
 /// The plant of a controller: the disk and the devices.
 /// The disk has two sides. The effect of a call is the step that it adds to the trace.
+///
+/// All that is seen of a plant is one member, so that each call has one equation.
 pub trait Plant {
     /// The past of the plant, where it tells it, both counts of faults, and whether it is stopped.
     ghost seen: { Self → Seen };

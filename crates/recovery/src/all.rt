@@ -78,6 +78,8 @@ fn counted(settled: Settled, one: &One) -> Settled
 
 /// Settles all experiments that move, but the busy ones, in order of creation.
 ///
+/// A settling appends records, so the journal is at work: with the lab's records, its epoch, and over a sound trace with images that stand for the lab.
+///
 /// One whose course is cut still moves, and the others go on. A failed call of the journal, a stop, or want of memory between two of them breaks it
 /// off. After `Plant` and `Stopped` the state is to be dropped.
 ///

@@ -195,7 +195,7 @@ impl Manager {
         }
     }
 
-    /// Makes one turn of a swap.
+    /// Makes one turn of a swap. The controller is at work in some lab in which exactly the manager's swaps are open: what is answered is said of that lab.
     pub fn turn<P: Plant>(
         &mut self,
         exp: Name,
@@ -223,7 +223,7 @@ impl Manager {
         Ok(progress)
     }
 
-    /// Turns a swap to its end.
+    /// Turns a swap to its end, of a controller as for a turn.
     pub fn finish<P: Plant>(
         &mut self,
         exp: Name,

@@ -6,7 +6,7 @@ pub struct Ended {
     pub exp: Name,
     /// Whether the experiment is in the lab now.
     pub inside: bool,
-    /// Whether its last record is Commit; else it is Abort.
+    /// Whether its last record is Commit; else it is Abort. The other fields don't tell a change that was done from one that a settling took back.
     pub committed: bool,
     /// The trouble that began the undo, where there was one.
     pub why: Option<What>,

@@ -30,7 +30,8 @@ pub struct AskedLink {
     pub ends: Items<VirtEnd>,
 }
 
-/// The network that an NS file asks for: nodes, links and LANs, and classes, each in order of creation. Contracts see these lists.
+/// The network that an NS file asks for: nodes, links and LANs, and classes, each in order of creation. Contracts see these lists. Its
+/// fields are private, so that what the builder found of it stays so.
 #[derive(Drop)]
 pub struct Topo {
     nodes: Items<AskedNode>,
