@@ -82,7 +82,6 @@ fn lists_and_texts_are_compared_by_their_items(rt: HostRuntime) -> Result<(), Fa
     let same = tags.copy(rt.alloc())?;
     assert!(rt; tags == same);
     tags.push(VlanId(2))?;
-    assert!(rt; same.cmp(&tags) == Ordering::Less);
     assert_eq!(rt; tags.len(), 2);
     let mut text = Text::from_slice(rt.alloc(), b"free ")?;
     text.push_number(4_094)?;

@@ -62,7 +62,7 @@ fn a_peeked_line_is_left(rt: HostRuntime) -> Result<(), Fail> {
         }
     }
     let last = reader.peek(&mut source).ok().ok_or("no fault")?;
-    assert_eq!(rt; last.is_none(), true);
+    assert!(rt; last.is_none());
     Ok(())
 }
 

@@ -7,7 +7,7 @@ use phys_lab::Lab;
 use virt_topo::{Mapping, Wiring};
 
 /// The number of a cost rule.
-#[derive(Clone, Copy, Debug, PartialEq, Eq, Drop)]
+#[derive(Clone, Copy, PartialEq, Eq, Drop)]
 pub enum RuleNumber {
     /// The load of the trunks, in kbps.
     Trunk,

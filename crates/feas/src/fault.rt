@@ -5,7 +5,7 @@ use lab_base::Memory;
 use virt_topo::{Broken, Subject};
 
 /// The reason why a mapping was not accepted.
-#[derive(Clone, Copy, Debug, PartialEq, Eq)]
+#[derive(Clone, Copy, PartialEq, Eq)]
 pub enum CheckFault {
     /// The first broken rule, with its first subject that breaks it.
     Violation { rule: Broken, subject: Subject },

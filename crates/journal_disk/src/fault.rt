@@ -6,7 +6,7 @@ use plant::{Fault, Side};
 use std::alloc::{AllocError, AllocFailed};
 
 /// The reason why a journal was not opened. After each of them it may be opened anew.
-#[derive(Clone, Copy, Debug, PartialEq, Eq)]
+#[derive(Clone, Copy, PartialEq, Eq)]
 pub enum OpenFault {
     /// The disk failed.
     Plant,

@@ -1,5 +1,5 @@
 /// The boot state of a node.
-#[derive(Clone, Copy, Debug, PartialEq, Eq)]
+#[derive(Clone, Copy, PartialEq, Eq)]
 pub enum Boot {
     Off,
     Shutdown,

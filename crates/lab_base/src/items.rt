@@ -1,16 +1,12 @@
 ghost use Rattle.std.specs.Prelude.{◌≡◌, ◌++◌, ◌↔◌, [], ◌∷◌, length, OnOk, OnErr, IfOk, IsTrue};
-ghost use Rattle.std.specs.Hash as fed;
-ghost use Rattle.std.specs.Hash.{items_Alike};
-ghost use Rattle.std.specs.Cmp.Lexicographic.{pointwise, slice_cmp, slice_partial_cmp, lists_equiv, lists_agrees, lists_total, lists_ties, lists_per, lists_po};
+ghost use Rattle.std.specs.Cmp.Lexicographic.{pointwise, lists_equiv, lists_per};
 
 use crate::{Memory, VlanId};
 use std::alloc::Global;
-use std::cmp::Ordering;
-use std::hash::{Hash, Hasher};
 use std::marker::Model;
 
-/// A list, which contracts see as a list. Equality, order and hash are those of its items in order.
-#[derive(Debug, Drop)]
+/// A list, which contracts see as a list. Equality is that of its items in order.
+#[derive(Drop)]
 pub struct Items<T> {
     items: Vec<T>,
 }
@@ -108,38 +104,4 @@ impl<T: PartialEq> PartialEq for Items<T> {
 
 impl<T: Eq> Eq for Items<T> {
     ghost laws = { lists_equiv T.Eq.laws };
-}
-
-impl<T: PartialOrd> PartialOrd for Items<T> {
-    ghost partial_cmp = { slice_partial_cmp T.partial_cmp };
-
-    ghost laws = { lists_po T.PartialOrd.laws };
-
-    fn partial_cmp(&self, other: &Items<T>) -> Option<Ordering> {
-        self.as_slice().partial_cmp(other.as_slice())
-    }
-}
-
-impl<T: Ord> Ord for Items<T> {
-    ghost cmp = { slice_cmp T.cmp };
-
-    ghost total = { lists_total T.total };
-
-    ghost matches_partial_cmp = { lists_agrees T.matches_partial_cmp };
-
-    ghost matches_eq = { lists_ties T.cmp T.matches_eq };
-
-    fn cmp(&self, other: &Items<T>) -> Ordering {
-        self.as_slice().cmp(other.as_slice())
-    }
-}
-
-impl<T: Hash> Hash for Items<T> {
-    ghost hash_input = { fed.slice T.hash_input };
-
-    ghost respects_eq = { (items_Alike (record { fed = T.respects_eq })).fed };
-
-    fn hash<H: Hasher>(&self, state: &mut H) {
-        self.as_slice().hash(state);
-    }
 }

@@ -1,5 +1,5 @@
 /// The rates of a pipe in one direction.
-#[derive(Clone, Copy, Debug, PartialEq, Eq)]
+#[derive(Clone, Copy, PartialEq, Eq)]
 pub struct Rates {
     /// Bandwidth in kbps, 1 to 1,000,000,000.
     pub kbps: u64,

@@ -18,7 +18,7 @@ use script_text::{Command, Reply};
 use std::alloc::Global;
 
 /// Why a command has no reply, or not a whole one.
-#[derive(Clone, Copy, Debug, PartialEq, Eq)]
+#[derive(Clone, Copy, PartialEq, Eq)]
 pub(crate) enum CommandFault {
     /// Memory was wanting.
     Memory,

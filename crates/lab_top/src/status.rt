@@ -4,7 +4,7 @@ ghost use Rattle.lab_top.specs.Codes.{code_of};
 use plant::Side;
 
 /// How a run ended.
-#[derive(Clone, Copy, Debug, PartialEq, Eq)]
+#[derive(Clone, Copy, PartialEq, Eq)]
 pub enum Status {
     /// The script was read to its end.
     Done,

@@ -8,7 +8,7 @@ use crate::{field_at, push_count, weight_in};
 use lab_base::{Kind, Memory, Rates, Text, both, number_in};
 
 /// The limits of the rates in a text.
-#[derive(Clone, Copy, Debug)]
+#[derive(Clone, Copy)]
 pub struct RateLimits {
     /// The least bandwidth in kbps.
     pub least_kbps: u64,

@@ -10,7 +10,7 @@ use std::marker::Model;
 pub const MAX_POLLS: u32 = 64;
 
 /// The verdict of a watch on a state: the first of these that holds.
-#[derive(Clone, Copy, Debug, PartialEq, Eq)]
+#[derive(Clone, Copy, PartialEq, Eq)]
 pub enum Seen {
     /// The second state may not follow the first.
     Unlawful(Boot, Boot),

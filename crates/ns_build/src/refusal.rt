@@ -4,7 +4,7 @@ use lab_base::{Kind, Memory};
 use std::alloc::{AllocError, AllocFailed};
 
 /// The reason why a command is refused.
-#[derive(Clone, Copy, PartialEq, Eq, Debug, Drop)]
+#[derive(Clone, Copy, PartialEq, Eq, Drop)]
 pub(crate) enum Refusal {
     Kind(Kind),
     Memory,

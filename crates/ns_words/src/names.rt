@@ -15,7 +15,7 @@ use lab_base::{Name, Parts, parted};
 const MAX_OBJECT_NAME: usize = 26;
 
 /// The kind of an object that is named by its number, if no variable names it.
-#[derive(Clone, Copy, Debug, PartialEq, Eq)]
+#[derive(Clone, Copy, PartialEq, Eq)]
 pub enum Numbered {
     Node,
     /// A link or a LAN.

@@ -4,7 +4,7 @@ ghost use Rattle.plant.specs.Calls.{device_of};
 use lab_base::{Boot, Name, Rates, VlanId};
 
 /// A command to a device.
-#[derive(Clone, Copy, PartialEq, Eq)]
+#[derive(Clone, Copy)]
 pub enum DeviceOp {
     /// The port of the switch gets into the VLAN.
     Join {
@@ -47,7 +47,7 @@ pub enum DeviceOp {
 }
 
 /// The answer of a device.
-#[derive(Clone, Copy, Debug, PartialEq, Eq)]
+#[derive(Clone, Copy, PartialEq, Eq)]
 pub enum Answer {
     /// The command was done.
     Done,

@@ -1,7 +1,7 @@
 use lab_base::Name;
 
 /// How a device fails.
-#[derive(Clone, Copy, Debug, PartialEq, Eq)]
+#[derive(Clone, Copy, PartialEq, Eq)]
 pub enum How {
     /// The command is applied, and answered as failed.
     Applied,
@@ -16,7 +16,7 @@ pub enum How {
 }
 
 /// The part of the bytes that aren't durable which a stop leaves.
-#[derive(Clone, Copy, Debug, PartialEq, Eq)]
+#[derive(Clone, Copy, PartialEq, Eq)]
 pub enum Pick {
     /// Nothing; and the stopped call has no effect.
     Nothing,

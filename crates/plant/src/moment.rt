@@ -1,14 +1,14 @@
 use crate::Drill;
 
 /// The number of faults of the disk, and that of the devices. At its last value a count stands still.
-#[derive(Clone, Copy, Debug, PartialEq, Eq)]
+#[derive(Clone, Copy, PartialEq, Eq)]
 pub struct Faults {
     pub disk: u64,
     pub devices: u64,
 }
 
 /// A moment: the length of the trace, and both counts of faults.
-#[derive(Clone, Copy, Debug, PartialEq, Eq)]
+#[derive(Clone, Copy, PartialEq, Eq)]
 pub struct Moment {
     pub at: usize,
     pub faults: Faults,

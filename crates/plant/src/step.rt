@@ -2,7 +2,7 @@ use crate::{Answer, DeviceOp, Fault};
 use lab_base::Name;
 
 /// A side of the disk.
-#[derive(Clone, Copy, Debug, PartialEq, Eq)]
+#[derive(Clone, Copy, PartialEq, Eq)]
 pub enum Side {
     A,
     B,

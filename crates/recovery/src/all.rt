@@ -17,7 +17,7 @@ use std::alloc::Global;
 use virt_topo::{Experiment, Phase};
 
 /// The number of experiments that were settled, and of those that still move.
-#[derive(Clone, Copy, Debug, PartialEq, Eq)]
+#[derive(Clone, Copy, PartialEq, Eq)]
 pub struct Settled {
     pub done: u32,
     pub stuck: u32,

@@ -5,7 +5,7 @@ use lab_base::{Items, Name, Text, TextFault, VlanId, What};
 use virt_topo::Broken;
 
 /// The phase of an experiment, as a reply has it.
-#[derive(Clone, Copy, Debug, PartialEq, Eq)]
+#[derive(Clone, Copy, PartialEq, Eq)]
 pub enum PhaseWord {
     Out,
     In,
@@ -67,7 +67,7 @@ pub struct Served {
 }
 
 /// The end of a swap that failed.
-#[derive(Clone, Copy, Debug, PartialEq, Eq)]
+#[derive(Clone, Copy, PartialEq, Eq)]
 pub enum FailedEnd {
     /// The experiment is out.
     Out,

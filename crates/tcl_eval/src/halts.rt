@@ -5,7 +5,7 @@ use std::alloc::{AllocError, AllocFailed};
 use tcl_words::Broken;
 
 /// The reason why an evaluation ends early.
-#[derive(Clone, Copy, PartialEq, Eq, Debug, Drop)]
+#[derive(Clone, Copy, PartialEq, Eq, Drop)]
 pub enum Halt {
     Fault(Kind),
     Stop,

@@ -11,7 +11,7 @@ use lab_base::{TEXT_LIMIT, TextFault, TextRefused};
 use tcl_words::{line_of, split};
 
 /// The end of a run.
-#[derive(Clone, Copy, PartialEq, Eq, Debug, Drop)]
+#[derive(Clone, Copy, PartialEq, Eq, Drop)]
 pub enum Ran {
     /// The host stopped the script, in the command that begins on this line.
     Stopped { line: u32 },

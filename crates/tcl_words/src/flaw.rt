@@ -4,14 +4,14 @@ use lab_base::{Kind, Memory};
 use std::alloc::{AllocError, AllocFailed};
 
 /// A fault and the place of its byte.
-#[derive(Clone, Copy, PartialEq, Eq, Debug, Drop)]
+#[derive(Clone, Copy, PartialEq, Eq, Drop)]
 pub struct Flaw {
     pub kind: Kind,
     pub at: usize,
 }
 
 /// The reason why a text can't be read.
-#[derive(Clone, Copy, PartialEq, Eq, Debug, Drop)]
+#[derive(Clone, Copy, PartialEq, Eq, Drop)]
 pub enum Broken {
     Flaw(Flaw),
     Memory,

@@ -1,7 +1,7 @@
 use lab_base::{NodeId, TrunkId};
 
 /// A rule of mappings.
-#[derive(Clone, Copy, Debug, PartialEq, Eq)]
+#[derive(Clone, Copy, PartialEq, Eq)]
 pub enum Broken {
     /// A virtual node is on a node that nobody else claims.
     F1,
@@ -22,7 +22,7 @@ pub enum Broken {
 }
 
 /// The subject that breaks a rule.
-#[derive(Clone, Copy, Debug, PartialEq, Eq)]
+#[derive(Clone, Copy, PartialEq, Eq)]
 pub enum Subject {
     /// A virtual node: `F1`, `F3` and `F4`.
     Virt(u16),
