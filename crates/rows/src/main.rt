@@ -7,6 +7,7 @@
 //! repository's folder of that name, which users run.
 #![tactic(auto)]
 
+mod crashes;
 mod cuts;
 mod devices;
 mod drills;

@@ -57,6 +57,12 @@ fn with_many(alloc: Global, parts: &Parts<'_>, count: u32) -> Result<String, All
     Ok(script)
 }
 
+/// A script with its marked lines so often.
+pub fn repeated(alloc: Global, script: &str, count: u32) -> anyhow::Result<String> {
+    let parts = parts_of(script).ok_or_else(|| anyhow!("no marks"))?;
+    Ok(with_many(alloc, &parts, count)?)
+}
+
 /// The number of steps of a script.
 fn steps_of(alloc: Global, script: &str) -> anyhow::Result<usize> {
     let mut plant = blank(alloc)?;

@@ -17,16 +17,21 @@
 //! numbers LAST DRILL FILE        where the drill of number 1, 2, .. LAST stands at the mark
 //! cuts CALLS ENDS FILE.. how many numbers of each drill cut the command of the last file, behind the others, each leading to one of the ends
 //! told CALLS ENDS FILE.. the same of failures, where `status` stands twice behind the command, and then `recover`
+//! crashes ENDS FILE.. how many calls the script of the last file has behind the others over a folder in memory, and how often it is killed in them or
+//!                        power lost, each time leading to one of the ends
+//! reopened K ENDS FILE.. the same of the opening behind the last file, whose run is killed in its K-th call
+//! moved COUNT ENDS FILE.. the same of an opening behind the files, where the marked lines of the last one stand so often
 //! order LETTERS END [DRILL , ..]         whether swaps that are turned in that order lead to the end
 //! ```
 //!
 //! A blank plant is one in which nothing has happened. Lines are marked by a line `@` before and one behind them, and a place by one.
-use crate::cuts::{RECOVERS, TELLS, cut_of, faults, stops};
+use crate::crashes::{Case, OPENING, crashes};
+use crate::cuts::{Cut, RECOVERS, TELLS, cut_of, faults, stops};
 use crate::devices::{did, held};
 use crate::drills::drill_named;
 use crate::ends::{ends_of, script_of};
 use crate::folders::{folder_of, place, run_in};
-use crate::numbers::{long, numbers, turns};
+use crate::numbers::{long, numbers, repeated, turns};
 use crate::orders::order;
 use crate::run::{Given, Ran, blank, ending, plainly, run, run_blank};
 use crate::sides::{like, plant_with, sides};
@@ -170,6 +175,47 @@ fn told_twice(rt: &HostRuntime, calls: u32, ends: &str, files: &[&str]) -> anyho
     faults(rt.alloc(), &cut_of(rt, files)?, TELLS, calls, &ends)
 }
 
+/// Cuts the script of the last file over a folder in memory.
+fn crashed(rt: &HostRuntime, ends: &str, files: &[&str]) -> anyhow::Result<String> {
+    let ends = ends_of(rt, &names_in(rt.alloc(), ends)?)?;
+    let Cut { before, command } = cut_of(rt, files)?;
+    let case = Case {
+        before,
+        killed: None,
+        command,
+        ends,
+    };
+    crashes(rt.alloc(), &case)
+}
+
+/// Cuts the opening behind a run that is killed in its call of that number.
+fn reopened(rt: &HostRuntime, nth: u64, ends: &str, files: &[&str]) -> anyhow::Result<String> {
+    let ends = ends_of(rt, &names_in(rt.alloc(), ends)?)?;
+    let Cut { before, command } = cut_of(rt, files)?;
+    let case = Case {
+        before,
+        killed: Some((command, nth)),
+        command: OPENING.to_string(rt.alloc())?,
+        ends,
+    };
+    crashes(rt.alloc(), &case)
+}
+
+/// Cuts the opening behind scripts of which the last one has its marked lines so often.
+fn moved(rt: &HostRuntime, count: u32, ends: &str, files: &[&str]) -> anyhow::Result<String> {
+    let ends = ends_of(rt, &names_in(rt.alloc(), ends)?)?;
+    let Cut { before, command } = cut_of(rt, files)?;
+    let mut before = before;
+    before.push_str(repeated(rt.alloc(), command.as_str(), count)?.as_str())?;
+    let case = Case {
+        before,
+        killed: None,
+        command: OPENING.to_string(rt.alloc())?,
+        ends,
+    };
+    crashes(rt.alloc(), &case)
+}
+
 /// A plant whose sides have the bytes of these files: side A those of the first, and side B those of the second, if there is one.
 fn plant_of(rt: &HostRuntime, files: &[&str]) -> anyhow::Result<MemLab> {
     let none = Vec::new(rt.alloc());
@@ -214,6 +260,9 @@ fn told_of_numbers(rt: &HostRuntime, words: &[&str]) -> anyhow::Result<String> {
         }
         ["cuts", calls, ends, files @ ..] => cuts(rt, calls.parse()?, ends, files),
         ["told", calls, ends, files @ ..] => told_twice(rt, calls.parse()?, ends, files),
+        ["crashes", ends, files @ ..] => crashed(rt, ends, files),
+        ["reopened", nth, ends, files @ ..] => reopened(rt, nth.parse()?, ends, files),
+        ["moved", count, ends, files @ ..] => moved(rt, count.parse()?, ends, files),
         ["order", letters, end, drills @ ..] => order(rt, letters, end, drills),
         _ => bail!("no such row"),
     }
