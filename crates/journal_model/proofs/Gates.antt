@@ -14,8 +14,32 @@ use Rattle.journal_rec.specs.Payloads.{le, number, payload, IsRecord, body}
 use Rattle.journal_rec.specs.Packing.{block, blocks}
 use Rattle.journal_rec.proofs.Packing.{blocks-push}
 use Rattle.journal_model.specs.Journals.{header, Head, Blank, Foreign, Headed, head, On, Wrong, live, size, Reads, gate_after, RecordsOf, size_of}
-use Rattle.journal_model.specs.Appends.{front, other_side, IsOlder, Rests, Writes, IsReady, Opens, IsOn}
+use Rattle.journal_model.specs.Appends.{front, other_side, IsOlder, Rests, IsOn}
 use Rattle.journal_model.proofs.Images.{front_kept, synced_image, byte_image, put_one}
+
+-- THE STATES OF THE LIVE SIDE while a record is appended to it
+
+-- something is written behind the closed gate
+pub record Writes (d : Disk) (epoch : List ℕ) (rs : List Record) : Type 0 where
+  pub gate : ℕ
+  pub behind : List ℕ
+  pub shut : gate ≢ 165
+  pub durable : d.durable ≡ front epoch rs ++ gate ∷ behind
+  pub enough : length (front epoch rs) + 1 ≤ length d.reads
+  pub later : (range : ℕ × ℕ) → Has d.written range → length (front epoch rs) + 1 ≤ range.0
+
+-- the whole of r stands behind the closed gate
+pub record IsReady (d : Disk) (epoch : List ℕ) (rs : List Record) (r : Record) : Type 0 where
+  pub gate : ℕ
+  pub behind : List ℕ
+  pub shut : gate ≢ 165
+  pub is : d ≡ at_once (front epoch rs ++ gate ∷ (body r ++ behind))
+
+-- the gate before r is being written
+pub record Opens (d : Disk) (epoch : List ℕ) (rs : List Record) (r : Record) (new : ℕ) : Type 0 where
+  pub gate : ℕ
+  pub behind : List ℕ
+  pub is : d ≡ wrote (at_once (front epoch rs ++ gate ∷ (body r ++ behind))) (length (front epoch rs)) (new ∷ [])
 
 -- the head of a side that has a header and one byte more
 length_header : (epoch : List ℕ) → length epoch ≡ 8 → length (header epoch) ≡ 17

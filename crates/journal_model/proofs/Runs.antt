@@ -10,9 +10,9 @@ use Rattle.plant.specs.Sides.{of_side}
 use Rattle.journal_rec.specs.declared.record.Record.{Record}
 use Rattle.journal_rec.specs.Payloads.{IsRecord, body}
 use Rattle.journal_model.specs.Journals.{head, gate_after}
-use Rattle.journal_model.specs.Appends.{front, other_side, IsOlder, Known, Rests, Writes, IsReady, Opens, Run, Nothing, Body, Settled, Gate, All, added, IsOn, AfterRun}
+use Rattle.journal_model.specs.Appends.{front, other_side, IsOlder, Known, Rests, Run, Nothing, Body, Settled, Gate, All, added, IsOn, AfterRun}
 use Rattle.journal_model.proofs.Images.{synced_image}
-use Rattle.journal_model.proofs.Gates.{length_front, on_shut, on_open, rests_image, writes_image, ready_image, opens_image, rests_writes, rests_ready, ready_opens, opens_rests}
+use Rattle.journal_model.proofs.Gates.{Writes, IsReady, Opens, length_front, on_shut, on_open, rests_image, writes_image, ready_image, opens_image, rests_writes, rests_ready, ready_opens, opens_rests}
 use Rattle.journal_model.proofs.Traces.{disk_more}
 
 -- the live side after a run

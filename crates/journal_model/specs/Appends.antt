@@ -1,7 +1,7 @@
 -- The steps that an append adds to a trace, and the states of the live side and of its images.
 use Rattle.std.specs.Prelude.{◌≡◌, ◌≢◌, ◌⊎◌, ◌<◌, ◌≤◌, ◌+◌, ℕ, List, [], ◌∷◌, ◌++◌, length, slice_index}
 use Rattle.lab_base.specs.Lists.{Has}
-use Rattle.plant.specs.Disks.{Disk, wrote, at_once, disk, disk_after}
+use Rattle.plant.specs.Disks.{Disk, at_once, disk, disk_after}
 use Rattle.plant.specs.Events.{Event, Wrote, Synced}
 use Rattle.plant.specs.declared.step.Side.{Side}
 use Rattle.plant.specs.declared.step.Side.TheVariants.{A, B}
@@ -38,28 +38,6 @@ pub record Rests (d : Disk) (epoch : List ℕ) (rs : List Record) : Type 0 where
   pub behind : List ℕ
   pub shut : gate ≢ 165
   pub is : d ≡ at_once (front epoch rs ++ gate ∷ behind)
-
--- something is written behind the closed gate
-pub record Writes (d : Disk) (epoch : List ℕ) (rs : List Record) : Type 0 where
-  pub gate : ℕ
-  pub behind : List ℕ
-  pub shut : gate ≢ 165
-  pub durable : d.durable ≡ front epoch rs ++ gate ∷ behind
-  pub enough : length (front epoch rs) + 1 ≤ length d.reads
-  pub later : (range : ℕ × ℕ) → Has d.written range → length (front epoch rs) + 1 ≤ range.0
-
--- the whole of r stands behind the closed gate
-pub record IsReady (d : Disk) (epoch : List ℕ) (rs : List Record) (r : Record) : Type 0 where
-  pub gate : ℕ
-  pub behind : List ℕ
-  pub shut : gate ≢ 165
-  pub is : d ≡ at_once (front epoch rs ++ gate ∷ (body r ++ behind))
-
--- the gate before r is being written
-pub record Opens (d : Disk) (epoch : List ℕ) (rs : List Record) (r : Record) (new : ℕ) : Type 0 where
-  pub gate : ℕ
-  pub behind : List ℕ
-  pub is : d ≡ wrote (at_once (front epoch rs ++ gate ∷ (body r ++ behind))) (length (front epoch rs)) (new ∷ [])
 
 -- WHAT A CALL OF append ADDS, up to the step in which it failed or stopped: nothing; any bytes behind the gate; its body, synced; then any byte as the gate; then the open gate, synced
 pub data Run : Type 0 where
