@@ -54,8 +54,8 @@ module _ {X : Type 0} (steps_of : X → List Event) (P : X → Type 0) (old one 
   sync_came before after false Stopped steps p q first joined second (inr h) =
       record { far = after; may = q; more = []; trace = chain old one two _ steps _ first second (ap (λ l. steps_of before ++ l) h ∙ joined ∙ sym (append-nil _)); last = refl }
 
-  -- a write that was not acknowledged: with other bytes they came so far
-  pub write_came : (before : X) (after : List ℕ → X) (at : ℕ) (bytes : List ℕ) (stopped : Bool) (fault : Fault) (steps : List Event) → P before → ((other : List ℕ) → P (after other)) → one ≡ with_steps old (steps_of before)
+  -- a write that was not acknowledged: with other bytes they came so far, which are its own where the plant stopped
+  pub write_came : (before : X) (after : List ℕ → X) (at : ℕ) (bytes : List ℕ) (stopped : Bool) (fault : Fault) (steps : List Event) → P before → ((other : List ℕ) → length other ≡ length bytes → (fault ≡ Stopped → other ≡ bytes) → P (after other)) → one ≡ with_steps old (steps_of before)
       → ((other : List ℕ) → length other ≡ length bytes → steps_of before ++ Wrote side at other ∷ [] ≡ steps_of (after other))
       → two ≡ with_steps one steps → WriteSteps side at bytes stopped (Err fault) steps → Came steps_of P old two side fault
   write_came before after at bytes true Failed steps p q first joined second h = absurd (cc h.0)
@@ -66,11 +66,11 @@ module _ {X : Type 0} (steps_of : X → List Event) (P : X → Type 0) (old one 
   write_came before after at bytes false Failed steps p q first joined second (inr h) =
       let both : steps_of before ++ (Wrote side at h.0 ∷ Missed side ∷ []) ≡ steps_of (after h.0) ++ Missed side ∷ [] =
       sym (append_assoc (steps_of before) (Wrote side at h.0 ∷ []) (Missed side ∷ [])) ∙ ap (λ l. l ++ Missed side ∷ []) (joined h.0 h.1) in
-      record { far = after h.0; may = q h.0; more = Missed side ∷ []; trace = chain old one two _ steps _ first second (ap (λ l. steps_of before ++ l) h.2 ∙ both); last = refl }
+      record { far = after h.0; may = q h.0 h.1 (λ e. absurd (cc e)); more = Missed side ∷ []; trace = chain old one two _ steps _ first second (ap (λ l. steps_of before ++ l) h.2 ∙ both); last = refl }
   write_came before after at bytes false Stopped steps p q first joined second (inl h) =
       record { far = before; may = p; more = []; trace = chain old one two _ steps _ first second (ap (λ l. steps_of before ++ l) h); last = refl }
   write_came before after at bytes false Stopped steps p q first joined second (inr h) =
-      record { far = after bytes; may = q bytes; more = []; trace = chain old one two _ steps _ first second (ap (λ l. steps_of before ++ l) h ∙ joined bytes refl ∙ sym (append-nil _)); last = refl }
+      record { far = after bytes; may = q bytes refl (λ e. refl); more = []; trace = chain old one two _ steps _ first second (ap (λ l. steps_of before ++ l) h ∙ joined bytes refl ∙ sym (append-nil _)); last = refl }
 
   -- a sync as the last call
   pub sync_reaches : (before goal : X) (stopped : Bool) (result : Result (Unit {0}) Fault) (steps : List Event) → P before → P goal → one ≡ with_steps old (steps_of before) → steps_of before ++ Synced side ∷ [] ≡ steps_of goal

@@ -24,10 +24,10 @@ abbrev pub answer_of : Result (Unit {0}) Fault → Result (Unit {0}) CompactFaul
 answer_of (Ok done) = Ok done
 answer_of (Err fault) = Err (compact_fault fault)
 
-ends_so : (side : Side) (result : Result (Unit {0}) Fault) (far : Come) (more : List Event) → MoveEnds side result far more → Ends side (answer_of result) far more
-ends_so side (Ok done) far more h = h
-ends_so side (Err Failed) far more h = h
-ends_so side (Err Stopped) far more h = h
+ends_so : (side : Side) (text : List ℕ) (result : Result (Unit {0}) Fault) (far : Come) (more : List Event) → MoveEnds side text result far more → Ends side (answer_of result) far more
+ends_so side text (Ok done) far more h = h
+ends_so side text (Err Failed) far more h = h.0
+ends_so side text (Err Stopped) far more h = h.0
 
 module _ (told new : Option Told) (j : Journal) (packed : List ℕ) where
   abbrev pub CompactedBy : Result (Unit {0}) CompactFault → Type 0
@@ -43,7 +43,7 @@ module _ (told new : Option Told) (j : Journal) (packed : List ℕ) where
         may = subst (λ u. MayCome u (side_text (epoch_of j + 1) packed) m.far) saw m.may;
         more = m.more;
         steps_are = ap (λ u. come_steps (other_side (side_of j)) u m.far ++ m.more) saw;
-        ends = ends_so (other_side (side_of j)) result m.far m.more m.ends;
+        ends = ends_so (other_side (side_of j)) (side_text (epoch_of j + 1) packed) result m.far m.more m.ends;
       }
 
 module _ (new : Option Told) (j : Journal) (packed : List ℕ) (rs ps : List Record) (are : ArePacked packed ps) (below : epoch_of j < 2 ^ 64 - 1) where

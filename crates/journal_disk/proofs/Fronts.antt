@@ -1,5 +1,5 @@
 -- The fronts of both sides, and the sides by them.
-use Rattle.std.proofs.Common.{◌≡◌, ℕ, ◌+◌, ◌||◌, ◌==◌, not, nat_lt, if◌then◌else◌, List, [], ◌∷◌, ◌++◌, length, take, drop, get_or, Option, Some, None, refl, sym, ap, ◌∙◌, subst, arith, length-take, take-take}
+use Rattle.std.proofs.Common.{◌≡◌, ◌≢◌, ℕ, ◌+◌, ◌||◌, ◌==◌, not, nat_lt, if◌then◌else◌, List, [], ◌∷◌, ◌++◌, length, take, drop, get_or, Option, Some, None, refl, sym, ap, ◌∙◌, subst, arith, length-take, take-take}
 use Rattle.std.specs.Prelude.{IfSome}
 use Rattle.std.specs.Str.{bytes_eq}
 use Rattle.std.proofs.lemmas.Bool.Decides.{nat_tests}
@@ -95,6 +95,34 @@ read_head bytes front is = ap head (sym is) ∙ front_head bytes
 
 pub read_short : (bytes front : List ℕ) → take 18 bytes ≡ front → nat_lt (length front) 18 ≡ nat_lt (length bytes) 18
 read_short bytes front is = ap (λ (l : List ℕ). nat_lt (length l) 18) (sym is) ∙ front_short bytes
+
+-- THE SIDES AS AN OPENING READS THEM, by the front of each
+
+module _ (told : Option Told) (sides : Sides) (fa fb : List ℕ) (on_a : IfSome told (λ t. fa ≡ take 18 (disk A t.trace).reads)) (on_b : IfSome told (λ t. fb ≡ take 18 (disk B t.trace).reads)) (place : sides.place ≡ seen_live (live (head fa) (head fb))) (short : sides.is_short ≡ nat_lt (length fa) 18) where
+  -- where none is live
+  pub none_seen : ((side : Side) → sides.place ≢ places.On side) → AreSeen told sides
+  none_seen none =
+      let a = whole_of told A fa in
+      let b = whole_of told B fb in
+      seen_by told sides a b fa fb (both_read told a b (whole_reads told A fa) (whole_reads told B fb)) (whole_head told A fa on_a) (whole_head told B fb on_b) (whole_short told A fa on_a) place short (λ side here. absurd (none side here))
+
+  -- where one is live, which is read whole
+  pub live_seen : (side : Side) (bytes : List ℕ) → IfSome told (λ t. bytes ≡ (disk side t.trace).reads) → take 18 bytes ≡ of_side side fa fb → sides.place ≡ places.On side → sides.live.items ≡ bytes → AreSeen told sides
+  live_seen A bytes reads front on is =
+      let b = whole_of told B fb in
+      seen_by told sides bytes b fa fb (both_read told bytes b reads (whole_reads told B fb)) (read_head bytes fa front) (whole_head told B fb on_b) (read_short bytes fa front) place short (on_one sides.place A sides.live.items bytes b on is)
+  live_seen B bytes reads front on is =
+      let a = whole_of told A fa in
+      seen_by told sides a bytes fa fb (both_read told a bytes (whole_reads told A fa) reads) (whole_head told A fa on_a) (read_head bytes fb front) (whole_short told A fa on_a) place short (on_one sides.place B sides.live.items a bytes on is)
+
+-- what holds of each side's own
+pub on_either : {X : Type 0} (P : Side → X → Type 0) (side : Side) (a b : X) → P A a → P B b → P side (of_side side a b)
+on_either P A a b pa pb = pa
+on_either P B a b pa pb = pb
+
+pub either_of : {X Y : Type 0} (f : X → Y) (side : Side) (a b : X) → f (of_side side a b) ≡ of_side side (f a) (f b)
+either_of f A a b = refl
+either_of f B a b = refl
 
 -- so many bytes more behind those that were read
 pub read_on : (old now : Option Told) (side : Side) (bytes more : List ℕ) (done size all : ℕ) → now ≡ old → all ≡ done + size → IfSome old (λ t. bytes ≡ take done (disk side t.trace).reads)

@@ -12,7 +12,7 @@ use Rattle.plant.specs.declared.step.Side.{Side}
 use Rattle.plant.specs.declared.step.Side.TheVariants.{A, B}
 use Rattle.plant.proofs.Traces.{with_steps-nil}
 use Rattle.journal_model.proofs.Traces.{disk_more}
-use Rattle.journal_disk.specs.Compacting.{is_unshut, poured, ArePieces, Come, Untouched, Filling, InUse, shutting, emptying, filling, come_steps, MayCome, Leaves, BreaksOff, Pours}
+use Rattle.journal_disk.specs.Compacting.{is_unshut, poured, ArePieces, Come, Untouched, Filling, InUse, shutting, emptying, filling, come_steps, MayCome, IsMeant, Leaves, BreaksOff, Pours}
 use Rattle.journal_disk.specs.Compactions.{MovesOver}
 use Rattle.journal_disk.specs.Reaching.{IsLast}
 use Rattle.journal_disk.proofs.Chains.{chain, Came, sync_came, write_came, sync_ok}
@@ -46,28 +46,31 @@ cut_came steps_of P old one two side before after size false Stopped steps p q f
     record { far = after; may = q; more = []; trace = chain old one two _ steps _ first second (ap (λ l. steps_of before ++ l) h ∙ joined ∙ sym (append-nil _)); last = refl }
 
 module _ (side : Side) (unshut : Bool) (text : List ℕ) (base one two : Option Told) where
-  left : (fault : Fault) → Came (come_steps side unshut) (MayCome unshut text) base two side fault → Leaves side unshut text base two fault
-  left fault c = record { far = c.far; may = c.may; more = c.more; trace = c.trace; last = c.last }
+  abbrev pub May : Fault → Come → Type 0
+  May fault far = MayCome unshut text far × IsMeant text fault far
+
+  left : (fault : Fault) → Came (come_steps side unshut) (May fault) base two side fault → Leaves side unshut text base two fault
+  left fault c = record { far = c.far; may = c.may.0; more = c.more; trace = c.trace; last = c.last; meant = c.may.1 }
 
   -- after a sync, a write of one byte and a cut that were not acknowledged
-  pub sync_left : (before after : Come) (stopped : Bool) (fault : Fault) (steps : List Event) → MayCome unshut text before → MayCome unshut text after → one ≡ with_steps base (come_steps side unshut before)
+  pub sync_left : (before after : Come) (stopped : Bool) (fault : Fault) (steps : List Event) → May fault before → May fault after → one ≡ with_steps base (come_steps side unshut before)
       → come_steps side unshut before ++ Synced side ∷ [] ≡ come_steps side unshut after → two ≡ with_steps one steps → SyncSteps side stopped (Err fault) steps → Leaves side unshut text base two fault
-  sync_left before after stopped fault steps p q first joined second h = left fault (sync_came (come_steps side unshut) (MayCome unshut text) base one two side before after stopped fault steps p q first joined second h)
+  sync_left before after stopped fault steps p q first joined second h = left fault (sync_came (come_steps side unshut) (May fault) base one two side before after stopped fault steps p q first joined second h)
 
-  pub byte_left : (before : Come) (after : ℕ → Come) (at byte : ℕ) (stopped : Bool) (fault : Fault) (steps : List Event) → MayCome unshut text before → ((byte : ℕ) → MayCome unshut text (after byte)) → one ≡ with_steps base (come_steps side unshut before)
+  pub byte_left : (before : Come) (after : ℕ → Come) (at byte : ℕ) (stopped : Bool) (fault : Fault) (steps : List Event) → May fault before → ((other : ℕ) → (fault ≡ Stopped → other ≡ byte) → May fault (after other)) → one ≡ with_steps base (come_steps side unshut before)
       → ((byte : ℕ) → come_steps side unshut before ++ Wrote side at (byte ∷ []) ∷ [] ≡ come_steps side unshut (after byte)) → two ≡ with_steps one steps → WriteSteps side at (byte ∷ []) stopped (Err fault) steps → Leaves side unshut text base two fault
   byte_left before after at byte stopped fault steps p q first joined second h =
-      left fault (write_came (come_steps side unshut) (MayCome unshut text) base one two side before (λ other. after (first_byte other)) at (byte ∷ []) stopped fault steps p (λ other. q (first_byte other)) first
+      left fault (write_came (come_steps side unshut) (May fault) base one two side before (λ other. after (first_byte other)) at (byte ∷ []) stopped fault steps p (λ other len own. q (first_byte other) (λ e. ap first_byte (own e))) first
       (λ other len. ap (λ (l : List ℕ). come_steps side unshut before ++ Wrote side at l ∷ []) (one_byte other len) ∙ joined (first_byte other)) second h)
 
-  pub cut_left : (before after : Come) (size : ℕ) (stopped : Bool) (fault : Fault) (steps : List Event) → MayCome unshut text before → MayCome unshut text after → one ≡ with_steps base (come_steps side unshut before)
+  pub cut_left : (before after : Come) (size : ℕ) (stopped : Bool) (fault : Fault) (steps : List Event) → May fault before → May fault after → one ≡ with_steps base (come_steps side unshut before)
       → come_steps side unshut before ++ Cut side size ∷ [] ≡ come_steps side unshut after → two ≡ with_steps one steps → CutSteps side size stopped (Err fault) steps → Leaves side unshut text base two fault
-  cut_left before after size stopped fault steps p q first joined second h = left fault (cut_came (come_steps side unshut) (MayCome unshut text) base one two side before after size stopped fault steps p q first joined second h)
+  cut_left before after size stopped fault steps p q first joined second h = left fault (cut_came (come_steps side unshut) (May fault) base one two side before after size stopped fault steps p q first joined second h)
 
-  pub sync_ends : (before after : Come) (stopped : Bool) (result : Result (Unit {0}) Fault) (steps : List Event) → MayCome unshut text before → MayCome unshut text after → one ≡ with_steps base (come_steps side unshut before)
+  pub sync_ends : (before after : Come) (stopped : Bool) (result : Result (Unit {0}) Fault) (steps : List Event) → ((fault : Fault) → May fault before) → ((fault : Fault) → May fault after) → one ≡ with_steps base (come_steps side unshut before)
       → come_steps side unshut before ++ Synced side ∷ [] ≡ come_steps side unshut after → two ≡ with_steps one steps → SyncSteps side stopped result steps → BreaksOff side unshut text base two result
   sync_ends before after stopped (Ok u) steps p q first joined second h = tt
-  sync_ends before after stopped (Err fault) steps p q first joined second h = sync_left before after stopped fault steps p q first joined second h
+  sync_ends before after stopped (Err fault) steps p q first joined second h = sync_left before after stopped fault steps (p fault) (q fault) first joined second h
 
   -- with the pieces that were written
   pub pour_left : (fault : Fault) → one ≡ with_steps base (emptying side unshut) → Pours side 1 text one two (Err fault) → Leaves side unshut text base two fault
@@ -76,7 +79,8 @@ module _ (side : Side) (unshut : Bool) (text : List ℕ) (base one two : Option 
     may = tt;
     more = p.more;
     trace = chain base one two (emptying side unshut) (poured side 1 p.pieces ++ p.more) _ first p.trace (sym (append_assoc (emptying side unshut) (poured side 1 p.pieces) p.more));
-    last = p.ends;
+    last = p.ends.0;
+    meant = p.ends.1;
   }
 
 -- ---- the whole move
@@ -86,11 +90,11 @@ module _ (side : Side) (text : List ℕ) (old new : Option Told) where
   unread fault more is last = by old is
     where
       by : (o : Option Told) → new ≡ with_steps o more → MovesOver side text o new (Err fault)
-      by None is = record { unshut = true; was = tt; far = Untouched; may = tt; more = more; trace = is; ends = last }
-      by (Some t) is = record { unshut = is_unshut (disk side t.trace).reads; was = refl; far = Untouched; may = tt; more = more; trace = is; ends = last }
+      by None is = record { unshut = true; was = tt; far = Untouched; may = tt; more = more; trace = is; ends = (last, tt) }
+      by (Some t) is = record { unshut = is_unshut (disk side t.trace).reads; was = refl; far = Untouched; may = tt; more = more; trace = is; ends = (last, tt) }
 
   pub moves_left : (unshut : Bool) (fault : Fault) → IfSome old (λ t. unshut ≡ is_unshut (disk side t.trace).reads) → Leaves side unshut text old new fault → MovesOver side text old new (Err fault)
-  moves_left unshut fault saw l = record { unshut = unshut; was = saw; far = l.far; may = l.may; more = l.more; trace = l.trace; ends = l.last }
+  moves_left unshut fault saw l = record { unshut = unshut; was = saw; far = l.far; may = l.may; more = l.more; trace = l.trace; ends = (l.last, l.meant) }
 
   pub moves_done : (unshut : Bool) (pieces : List (List ℕ)) (u : Unit {0}) → IfSome old (λ t. unshut ≡ is_unshut (disk side t.trace).reads) → ArePieces text pieces → new ≡ with_steps old (come_steps side unshut (InUse pieces)) → MovesOver side text old new (Ok u)
   moves_done unshut pieces u saw are is = record {

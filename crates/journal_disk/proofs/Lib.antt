@@ -17,4 +17,5 @@ mod Leaving
 mod EpochLaws
 mod PourLaws
 mod CompactExits
+mod Beginnings
 pub mod LastSteps

@@ -54,7 +54,7 @@ pub write_part : (old one two : Option Told) (j : Journal) (r : Record) (before 
     → ((other : List ℕ) → length other ≡ length bytes → added (side_of j) (gate_of j) r before ++ Wrote (side_of j) at other ∷ [] ≡ added (side_of j) (gate_of j) r (after other))
     → two ≡ with_steps one steps → WriteSteps (side_of j) at bytes stopped (Err fault) steps → Adds old two j r (Err fault)
 write_part old one two j r before after at bytes stopped fault steps first joined second h =
-    part old two j r fault (write_came (added (side_of j) (gate_of j) r) (λ _. Unit {0}) old one two (side_of j) before after at bytes stopped fault steps tt (λ _. tt) first joined second h)
+    part old two j r fault (write_came (added (side_of j) (gate_of j) r) (λ _. Unit {0}) old one two (side_of j) before after at bytes stopped fault steps tt (λ _ _ _. tt) first joined second h)
 
 -- the last sync, behind the open gate
 pub last_sync : (old one two : Option Told) (j : Journal) (r : Record) (stopped : Bool) (result : Result (Unit {0}) Fault) (steps : List Event) → one ≡ with_steps old (added (side_of j) (gate_of j) r (Gate 165))

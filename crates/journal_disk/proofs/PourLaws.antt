@@ -14,12 +14,13 @@ use Rattle.plant.specs.DiskCalls.{WriteSteps}
 use Rattle.plant.specs.Events.{Event, Wrote}
 use Rattle.plant.specs.Told.{Told, with_steps}
 use Rattle.plant.specs.declared.device.Fault.{Fault}
+use Rattle.plant.specs.declared.device.Fault.TheVariants.{Failed, Stopped}
 use Rattle.plant.specs.declared.step.Side.{Side}
 use Rattle.plant.specs.declared.step.Side.TheVariants.{A, B}
 use Rattle.plant.proofs.Traces.{disk_push}
 use Rattle.journal_rec.specs.Payloads.{le}
 use Rattle.journal_model.specs.Journals.{magic}
-use Rattle.journal_disk.specs.Compacting.{side_text, AreFull, ArePieces, poured, PourEnds, Pours}
+use Rattle.journal_disk.specs.Compacting.{side_text, AreFull, ArePieces, Begins, AreBegun, poured, PourEnds, Pours}
 use Rattle.journal_disk.proofs.Chains.{chain, write_came}
 
 abbrev pub joined : List (List ℕ) → List ℕ
@@ -102,12 +103,34 @@ wrote_long side (Some t) two at bytes within is = subst (λ (o : Option Told). I
     by A h = subst (λ (d : Disk). at + length bytes ≤ length d.reads) (sym (disk_push A t.trace (Wrote A at bytes))) (put_long (disk A t.trace).reads bytes at h)
     by B h = subst (λ (d : Disk). at + length bytes ≤ length d.reads) (sym (disk_push B t.trace (Wrote B at bytes))) (put_long (disk B t.trace).reads bytes at h)
 
+-- with the piece of a write that was not acknowledged
+begun_with : (bytes : List ℕ) (pieces : List (List ℕ)) (piece other : List ℕ) (fault : Fault) → Begins bytes (joined pieces) → Begins bytes (joined (pieces ++ piece ∷ [])) → (fault ≡ Stopped → other ≡ piece) → AreBegun bytes fault (pieces ++ other ∷ [])
+begun_with bytes pieces piece other Failed before after own = record { done = pieces; last = other ∷ []; are = refl; begins = before; few = omega arith; stopped = λ e. absurd (cc e) }
+begun_with bytes pieces piece other Stopped before after own = record {
+  done = pieces ++ other ∷ [];
+  last = [];
+  are = sym (append-nil (pieces ++ other ∷ []));
+  begins = subst (λ l. Begins bytes (joined (pieces ++ l ∷ []))) (sym (own refl)) after;
+  few = omega arith;
+  stopped = λ e. refl;
+}
+
+pub begun_so : (bytes : List ℕ) (pieces : List (List ℕ)) (fault : Fault) → Begins bytes (joined pieces) → AreBegun bytes fault pieces
+begun_so bytes pieces fault begins = record { done = pieces; last = []; are = sym (append-nil pieces); begins = begins; few = omega arith; stopped = λ e. refl }
+
+-- what was written of bytes is a beginning of them
+pub begins_so : (bytes : List ℕ) (done : ℕ) (pieces : List (List ℕ)) → ArePieces (take done bytes) pieces → Begins bytes (joined pieces)
+begins_so bytes done pieces are = (drop done bytes, ap (λ l. l ++ drop done bytes) are.whole ∙ take-append-drop done bytes)
+
+pub all_begins : (text : List ℕ) (pieces : List (List ℕ)) → ArePieces text pieces → Begins text (joined pieces)
+all_begins text pieces are = ([], append-nil (joined pieces) ∙ are.whole)
+
 -- a write that was not acknowledged
-pub pours_left : (side : Side) (at n : ℕ) (bytes : List ℕ) (old one two : Option Told) (pieces : List (List ℕ)) (piece : List ℕ) (stopped : Bool) (fault : Fault) (steps : List Event) → one ≡ with_steps old (poured side at pieces) → n ≡ at + length (joined pieces)
+pub pours_left : (side : Side) (at n : ℕ) (bytes : List ℕ) (old one two : Option Told) (pieces : List (List ℕ)) (piece : List ℕ) (stopped : Bool) (fault : Fault) (steps : List Event) → Begins bytes (joined pieces) → Begins bytes (joined (pieces ++ piece ∷ [])) → one ≡ with_steps old (poured side at pieces) → n ≡ at + length (joined pieces)
     → two ≡ with_steps one steps → WriteSteps side n piece stopped (Err fault) steps → Pours side at bytes old two (Err fault)
-pours_left side at n bytes old one two pieces piece stopped fault steps first is second h =
-    let c = write_came (poured side at) (λ _. Unit {0}) old one two side pieces (λ other. pieces ++ other ∷ []) n piece stopped fault steps tt (λ _. tt) first (λ other len. pushed side at n pieces other is) second h in
-    record { pieces = c.far; more = c.more; trace = c.trace; ends = c.last }
+pours_left side at n bytes old one two pieces piece stopped fault steps before after first is second h =
+    let c = write_came (poured side at) (λ far. AreBegun bytes fault far) old one two side pieces (λ other. pieces ++ other ∷ []) n piece stopped fault steps (begun_so bytes pieces fault before) (λ other len own. begun_with bytes pieces piece other fault before after own) first (λ other len. pushed side at n pieces other is) second h in
+    record { pieces = c.far; more = c.more; trace = c.trace; ends = (c.last, c.may) }
 
 pub pours_done : (side : Side) (at : ℕ) (bytes : List ℕ) (old new : Option Told) (pieces : List (List ℕ)) (u : Unit {0}) → ArePieces bytes pieces → new ≡ with_steps old (poured side at pieces) → Pours side at bytes old new (Ok u)
 pours_done side at bytes old new pieces u are is = record { pieces = pieces; more = []; trace = is ∙ ap (with_steps old) (sym (append-nil (poured side at pieces))); ends = (are, refl) }
@@ -138,6 +161,17 @@ module _ (side : Side) (epoch first : ℕ) (records : List ℕ) (old one : Optio
     full = full_first pieces are.whole are.full;
   }
 
+  -- a beginning of the rest behind the first piece
+  begun_behind : (fault : Fault) (pieces : List (List ℕ)) → AreBegun (drop first records) fault pieces → AreBegun (side_text epoch records) fault (side_text epoch (take first records) ∷ pieces)
+  begun_behind fault pieces b = record {
+    done = side_text epoch (take first records) ∷ b.done;
+    last = b.last;
+    are = ap (λ l. side_text epoch (take first records) ∷ l) b.are;
+    begins = (b.begins.0, append_assoc (side_text epoch (take first records)) (joined b.done) b.begins.0 ∙ ap (λ l. side_text epoch (take first records) ++ l) b.begins.1 ∙ whole_text);
+    few = b.few;
+    stopped = b.stopped;
+  }
+
   pub pours_joined : (new : Option Told) (n : ℕ) (result : Result (Unit {0}) Fault) → n ≡ 17 + first → Pours side n (drop first records) one new result → Pours side 1 (side_text epoch records) old new result
   pours_joined new n result is p = record {
     pieces = side_text epoch (take first records) ∷ p.pieces;
@@ -149,7 +183,17 @@ module _ (side : Side) (epoch first : ℕ) (records : List ℕ) (old one : Optio
     where
       by : (result : Result (Unit {0}) Fault) → PourEnds side (drop first records) result p.pieces p.more → PourEnds side (side_text epoch records) result (side_text epoch (take first records) ∷ p.pieces) p.more
       by (Ok u) ends = (pieces_joined p.pieces ends.0, ends.1)
-      by (Err fault) ends = ends
+      by (Err fault) ends = (ends.0, begun_behind fault p.pieces ends.1)
+
+-- the first piece is a beginning of the text
+pub head_begins : (epoch first : ℕ) (records piece : List ℕ) → piece ≡ take first records → Begins (side_text epoch records) (joined (side_text epoch piece ∷ []))
+head_begins epoch first records piece is = (
+  drop first records,
+  ap (λ l. l ++ drop first records) (append-nil (side_text epoch piece))
+      ∙ ap (λ l. side_text epoch l ++ drop first records) is
+      ∙ append_assoc (magic ++ le 8 epoch) (take first records) (drop first records)
+      ∙ ap (λ l. side_text epoch l) (take-append-drop first records),
+)
 
 -- where the rest is to be written
 pub rest_within : (side : Side) (epoch first : ℕ) (records : List ℕ) (old one : Option Told) → IfSome old (λ t. 1 ≤ length (disk side t.trace).reads) → one ≡ with_steps old (Wrote side 1 (side_text epoch (take first records)) ∷ []) → first ≤ length records

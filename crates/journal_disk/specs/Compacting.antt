@@ -4,6 +4,7 @@ use Rattle.std.specs.List.{flat_map}
 use Rattle.plant.specs.Events.{Event, Wrote, Synced, Cut}
 use Rattle.plant.specs.Told.{Told, with_steps}
 use Rattle.plant.specs.declared.device.Fault.{Fault}
+use Rattle.plant.specs.declared.device.Fault.TheVariants.{Stopped}
 use Rattle.plant.specs.declared.step.Side.{Side}
 use Rattle.journal_rec.specs.Payloads.{le}
 use Rattle.journal_model.specs.Journals.{magic}
@@ -78,6 +79,26 @@ MayCome unshut text (Raising pieces byte) = ArePieces text pieces
 MayCome unshut text (InUse pieces) = ArePieces text pieces
 MayCome unshut text far = Unit {0}
 
+-- a beginning of a text
+abbrev pub Begins : List ℕ → List ℕ → Type 0
+Begins text bytes = (rest : List ℕ) × (bytes ++ rest ≡ text)
+
+-- The pieces are a beginning of the text, but for the last one where its write failed: that may have left any bytes.
+pub record AreBegun (text : List ℕ) (fault : Fault) (pieces : List (List ℕ)) : Type 0 where
+  pub done : List (List ℕ)
+  pub last : List (List ℕ)
+  pub are : pieces ≡ done ++ last
+  pub begins : Begins text (flat_map (λ piece. piece) done)
+  pub few : length last ≤ 1
+  pub stopped : fault ≡ Stopped → last ≡ []
+
+-- what a call that was not acknowledged leaves of a move: other bytes than its own only where it failed
+abbrev pub IsMeant : List ℕ → Fault → Come → Type 0
+IsMeant text fault (Closing byte) = fault ≡ Stopped → byte ≡ 0
+IsMeant text fault (Filling pieces) = AreBegun text fault pieces
+IsMeant text fault (Raising pieces byte) = fault ≡ Stopped → byte ≡ 165
+IsMeant text fault far = Unit {0}
+
 -- so far after Ok
 abbrev pub IsInUse : Come → Type 0
 IsInUse (InUse pieces) = Unit {0}
@@ -90,15 +111,16 @@ pub record Leaves (side : Side) (unshut : Bool) (text : List ℕ) (base new : Op
   pub more : List Event
   pub trace : new ≡ with_steps base (come_steps side unshut far ++ more)
   pub last : IsLast side fault more
+  pub meant : IsMeant text fault far
 
 abbrev pub BreaksOff : Side → Bool → List ℕ → Option Told → Option Told → Result (Unit {0}) Fault → Type 0
 BreaksOff side unshut text base new (Ok done) = Unit {0}
 BreaksOff side unshut text base new (Err fault) = Leaves side unshut text base new fault
 
--- bytes were written from there on, in pieces: all of them after Ok
+-- bytes were written from there on, in pieces: all of them after Ok, and else a beginning
 abbrev pub PourEnds : Side → List ℕ → Result (Unit {0}) Fault → List (List ℕ) → List Event → Type 0
 PourEnds side bytes (Ok done) pieces more = ArePieces bytes pieces × (more ≡ [])
-PourEnds side bytes (Err fault) pieces more = IsLast side fault more
+PourEnds side bytes (Err fault) pieces more = IsLast side fault more × AreBegun bytes fault pieces
 
 pub record Pours (side : Side) (at : ℕ) (bytes : List ℕ) (old new : Option Told) (result : Result (Unit {0}) Fault) : Type 0 where
   pub pieces : List (List ℕ)

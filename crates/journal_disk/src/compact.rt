@@ -10,7 +10,7 @@ ghost use Rattle.journal_rec.specs.Packing.{ArePacked, side_length};
 ghost use Rattle.journal_disk.specs.Standing.{side_of, length_of, limit_of, IsAt};
 ghost use Rattle.journal_disk.specs.Epochs.{epoch_of, HasEpoch};
 ghost use Rattle.journal_disk.specs.Compacting.{filling, side_text, ArePieces, BreaksOff};
-ghost use Rattle.journal_disk.specs.Compactions.{MovesOver, Compacts, Shifts};
+ghost use Rattle.journal_disk.specs.Compactions.{MovesOver, Compacts, LeavesBegun, Shifts};
 
 use crate::emptying::{empty, is_unshut};
 use crate::heads::OPEN;
@@ -67,6 +67,10 @@ impl Journal {
         ensures stopped { IsErrOf result CompactFault.Stopped ↔ IsTrue (P.seen plant.new).stopped }
         ensures compacts { (steps : List Event) × ((P.seen plant.new).told ≡ with_steps (P.seen plant.old).told steps)
             × IfSome (P.seen plant.old).told (λ t. Compacts t.trace steps self.old packed.now result) }
+        // how the other side reads at each moment, also of a move that is cut off
+        ensures begins { (steps : List Event) × ((P.seen plant.new).told ≡ with_steps (P.seen plant.old).told steps)
+            × IfSome (P.seen plant.old).told (λ t. LeavesBegun t.trace steps (other_side (side_of self.old))
+            (side_text (epoch_of self.old + 1) packed.now) result) }
         ensures moments { (rs ps : List Record) → ArePacked packed.now ps
             → IfSome (P.seen plant.old).told (λ t. IsAt t.trace self.old rs → HasEpoch t.trace self.old
             → (steps : List Event) × ((P.seen plant.new).told ≡ with_steps (P.seen plant.old).told steps)

@@ -1,6 +1,7 @@
 ghost use Rattle.std.specs.Prelude.{◌≡◌, ◌↔◌, ◌≤◌, ◌<◌, ◌+◌, ◌++◌, length, min, take, drop, vec_len, IfOk, IfSome, OnOk, IsErrOf, IsTrue};
 ghost use Rattle.plant.specs.DiskCalls.{DiskCause};
 ghost use Rattle.plant.specs.Disks.{disk};
+ghost use Rattle.plant.specs.Sides.{of_side};
 ghost use Rattle.plant.specs.Told.{with_steps};
 ghost use Rattle.plant.specs.declared.step.Side.{Side as AnySide};
 ghost use Rattle.journal_disk.specs.Opening.{both_synced, Syncs, MayMiss};
@@ -148,6 +149,16 @@ fn no_live(alloc: Global, place: Place, is_short: bool) -> Sides
     }
 }
 
+/// The front of a side, of those of both.
+fn front_of(side: Side, a: Front, b: Front) -> Front
+    ensures { result ≡ of_side side a b }
+{
+    match side {
+        Side::A => a,
+        Side::B => b,
+    }
+}
+
 /// Reads the header of each side, and the rest of the one that is live.
 pub fn read_sides<P: Plant>(alloc: Global, plant: &mut P) -> Result<Sides, OpenFault>
     ensures trace { (side : AnySide) × MayMiss side (P.seen plant.old).told (P.seen plant.new).told result }
@@ -160,16 +171,8 @@ pub fn read_sides<P: Plant>(alloc: Global, plant: &mut P) -> Result<Sides, OpenF
     let place = place_in(&a.bytes, &b.bytes);
     let is_short = a.bytes.len() < HEADER;
     match place {
-        Place::On(Side::A) => {
-            let live = read_whole(plant, Side::A, a)?;
-            Ok(Sides {
-                place,
-                is_short,
-                live,
-            })
-        }
-        Place::On(Side::B) => {
-            let live = read_whole(plant, Side::B, b)?;
+        Place::On(side) => {
+            let live = read_whole(plant, side, front_of(side, a, b))?;
             Ok(Sides {
                 place,
                 is_short,

@@ -14,7 +14,7 @@ returns-in_err-write-clause-makes g c =
     let p = err_from_is_err_and c.from_residual.result c.from_residual.ensures.1 in
     let t = c.in_err-write.ensures.trace in
     let told = (g.P.Plant.seen c.args.plant.now).told in
-    rw (p.1, p.2) (broke (made_steps true) (IsMade true) Closed told (g.P.Plant.seen c.write.new.self).told A c.in_err-write.field-0.0 (write_came (made_steps true) (IsMade true) told told (g.P.Plant.seen c.write.new.self).told A Untouched (λ other. Closing (first_byte other)) 0 (0 ∷ []) (g.P.Plant.seen c.args.plant.now).stopped c.in_err-write.field-0.0 t.0 tt (λ _. refl) (with_steps-nil told)
+    rw (p.1, p.2) (broke (made_steps true) (IsMade true) Closed told (g.P.Plant.seen c.write.new.self).told A c.in_err-write.field-0.0 (write_came (made_steps true) (IsMade true) told told (g.P.Plant.seen c.write.new.self).told A Untouched (λ other. Closing (first_byte other)) 0 (0 ∷ []) (g.P.Plant.seen c.args.plant.now).stopped c.in_err-write.field-0.0 t.0 tt (λ _ _ _. refl) (with_steps-nil told)
     (λ other len. ap (λ (l : List ℕ). Wrote A 0 l ∷ []) (one_byte other len)) t.1 t.2))
 
 pub returns-clause-makes : goal.returns-clause-makes

@@ -15,7 +15,7 @@ returns-in_err-write-clause-makes g c =
     let p = err_from_is_err_and c.from_residual.result c.from_residual.ensures.1 in
     let t = c.in_err-write.ensures.trace in
     let told = (g.P.Plant.seen c.args.plant.now).told in
-    rw (p.1, p.2) (broke (made_steps false) (IsMade false) InUse told (g.P.Plant.seen c.write.new.self).told A c.in_err-write.field-0.0 (write_came (made_steps false) (IsMade false) told told (g.P.Plant.seen c.write.new.self).told A Untouched (λ other. Heading other) 1 made_header (g.P.Plant.seen c.args.plant.now).stopped c.in_err-write.field-0.0 t.0 tt (λ _. tt) (with_steps-nil told) (λ other len. refl) t.1 t.2))
+    rw (p.1, p.2) (broke (made_steps false) (IsMade false) InUse told (g.P.Plant.seen c.write.new.self).told A c.in_err-write.field-0.0 (write_came (made_steps false) (IsMade false) told told (g.P.Plant.seen c.write.new.self).told A Untouched (λ other. Heading other) 1 made_header (g.P.Plant.seen c.args.plant.now).stopped c.in_err-write.field-0.0 t.0 tt (λ _ _ _. tt) (with_steps-nil told) (λ other len. refl) t.1 t.2))
 
 pub returns-in_err-sync-clause-makes : goal.returns-in_err-sync-clause-makes
 returns-in_err-sync-clause-makes g c =
@@ -35,7 +35,7 @@ returns-in_err-write-2-clause-makes g c =
     let v = c.in_ok-sync.ensures.trace in
     let two : (g.P.Plant.seen c.sync.new.self).told ≡ with_steps told (Wrote A 1 made_header ∷ Synced A ∷ []) = chain told (g.P.Plant.seen c.write.new.self).told (g.P.Plant.seen c.sync.new.self).told _ v.0 _ one v.1 (ap (λ l. Wrote A 1 made_header ∷ l) (sync_ok A _ _ v.0 v.2)) in
     let t = c.in_err-write-2.ensures.trace in
-    rw (p.1, p.2) (broke (made_steps false) (IsMade false) InUse told (g.P.Plant.seen c.write-2.new.self).told A c.in_err-write-2.field-0.0 (write_came (made_steps false) (IsMade false) told (g.P.Plant.seen c.sync.new.self).told (g.P.Plant.seen c.write-2.new.self).told A WithHeader (λ other. Raising (first_byte other)) 0 (165 ∷ []) (g.P.Plant.seen c.sync.new.self).stopped c.in_err-write-2.field-0.0 t.0 tt (λ _. tt) two
+    rw (p.1, p.2) (broke (made_steps false) (IsMade false) InUse told (g.P.Plant.seen c.write-2.new.self).told A c.in_err-write-2.field-0.0 (write_came (made_steps false) (IsMade false) told (g.P.Plant.seen c.sync.new.self).told (g.P.Plant.seen c.write-2.new.self).told A WithHeader (λ other. Raising (first_byte other)) 0 (165 ∷ []) (g.P.Plant.seen c.sync.new.self).stopped c.in_err-write-2.field-0.0 t.0 tt (λ _ _ _. tt) two
     (λ other len. ap (λ (l : List ℕ). Wrote A 1 made_header ∷ Synced A ∷ Wrote A 0 l ∷ []) (one_byte other len)) t.1 t.2))
 
 pub returns-clause-makes : goal.returns-clause-makes

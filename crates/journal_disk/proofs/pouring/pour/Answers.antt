@@ -5,7 +5,7 @@ use Rattle.plant.specs.Told.{with_steps}
 use Rattle.plant.proofs.Traces.{with_steps-nil}
 use Rattle.journal_disk.specs.Compacting.{side_text, Pours}
 use Rattle.journal_disk.proofs.Chains.{write_ok}
-use Rattle.journal_disk.proofs.PourLaws.{pours_left, pours_joined, rest_within}
+use Rattle.journal_disk.proofs.PourLaws.{head_begins, pours_left, pours_joined, rest_within}
 use Rattle.journal_disk.proofs.pouring.pour.Goals as goal
 
 pub returns-in_err-pour_head-clause-pours : goal.returns-in_err-pour_head-clause-pours
@@ -13,7 +13,7 @@ returns-in_err-pour_head-clause-pours g c =
     let p = err_from_is_err_and c.from_residual.result c.from_residual.ensures.1 in
     let t = c.in_err-pour_head.ensures.trace in
     let told = (g.P.Plant.seen c.args.plant.now).told in
-    rw (p.1, p.2) (pours_left c.args.side 1 1 (side_text c.args.epoch c.args.records.now) told told (g.P.Plant.seen c.pour_head.new.plant).told [] (side_text c.args.epoch c.split_at.result.0.now) (g.P.Plant.seen c.args.plant.now).stopped c.in_err-pour_head.field-0.0 t.0 (with_steps-nil told) refl t.1 t.2)
+    rw (p.1, p.2) (pours_left c.args.side 1 1 (side_text c.args.epoch c.args.records.now) told told (g.P.Plant.seen c.pour_head.new.plant).told [] (side_text c.args.epoch c.split_at.result.0.now) (g.P.Plant.seen c.args.plant.now).stopped c.in_err-pour_head.field-0.0 t.0 (side_text c.args.epoch c.args.records.now, refl) (head_begins c.args.epoch c.first_of-size.result c.args.records.now c.split_at.result.0.now c.split_at.ensures.front) (with_steps-nil told) refl t.1 t.2)
 
 pub pour_rest-requires-clause-within : goal.pour_rest-requires-clause-within
 pour_rest-requires-clause-within g c =

@@ -5,10 +5,10 @@ use Rattle.std.proofs.lemmas.Result.{err_from_is_err_and}
 use Rattle.plant.specs.Disks.{disk}
 use Rattle.plant.specs.Events.{Wrote}
 use Rattle.plant.specs.Told.{with_steps}
-use Rattle.journal_disk.specs.Compacting.{poured}
+use Rattle.journal_disk.specs.Compacting.{Begins, poured}
 use Rattle.journal_disk.proofs.Chains.{chain, write_ok}
 use Rattle.journal_disk.proofs.Walking.{slice}
-use Rattle.journal_disk.proofs.PourLaws.{joined, pushed, still_full, pieces_push, filled_push, joined_length, wrote_long, pours_left}
+use Rattle.journal_disk.proofs.PourLaws.{joined, begins_so, pushed, still_full, pieces_push, filled_push, joined_length, wrote_long, pours_left}
 use Rattle.journal_disk.proofs.pouring.pour_rest.Goals as goal
 
 pub returns-in_err-write-clause-pours : goal.returns-in_err-write-clause-pours
@@ -21,7 +21,11 @@ returns-in_err-write-clause-pours g c =
     let size = c.piece_of-size.result in
     let piece = take (done + size - done) (drop done bytes) in
     let place : c.args.at + done ≡ c.args.at + length (joined so.0) = ap (λ n. c.args.at + n) (sym (joined_length bytes done so.0 c.loop-done.invariant.within so.1)) in
-    rw (p.1, p.2) (pours_left c.args.side c.args.at (c.args.at + done) bytes (g.P.Plant.seen c.args.plant.now).told (g.P.Plant.seen c.loop-done.plant).told (g.P.Plant.seen c.write.new.self).told so.0 piece (g.P.Plant.seen c.loop-done.plant).stopped c.in_err-write.field-0.0 t.0 so.2 place t.1 t.2)
+    let all = still_full bytes done so.0 c.loop-done-test.true so.3 in
+    let within : done + size ≤ length bytes = omega (arith, c.piece_of-size.ensures.within, c.loop-done-test.true) in
+    let after = pieces_push bytes done size so.0 so.1 within c.piece_of-size.ensures.some c.piece_of-size.ensures.piece all in
+    let begins = subst (λ (l : List ℕ). Begins bytes (joined (so.0 ++ l ∷ []))) (sym (slice bytes done size)) (begins_so bytes (done + size) (so.0 ++ take size (drop done bytes) ∷ []) after) in
+    rw (p.1, p.2) (pours_left c.args.side c.args.at (c.args.at + done) bytes (g.P.Plant.seen c.args.plant.now).told (g.P.Plant.seen c.loop-done.plant).told (g.P.Plant.seen c.write.new.self).told so.0 piece (g.P.Plant.seen c.loop-done.plant).stopped c.in_err-write.field-0.0 t.0 (begins_so bytes done so.0 so.1) begins so.2 place t.1 t.2)
 
 pub loop-done-preserved : goal.loop-done-preserved
 loop-done-preserved g c =
