@@ -1,5 +1,5 @@
 -- A node map from its parts.
-use Rattle.std.proofs.Common.{◌≡◌, ◌∙◌, List, Option, Some, None, refl, ap, sym, subst, arith}
+use Rattle.std.proofs.Common.{◌≡◌, ◌∙◌, List, length, true, Option, Some, None, refl, ap, sym, subst, arith}
 use Rattle.std.specs.Prelude.{is_none}
 use Rattle.std.specs.Option.{option_and_then}
 use Rattle.std.proofs.lemmas.Bool.{and_parts, and_from, cond-true}
@@ -12,17 +12,26 @@ use Rattle.virt_topo.specs.declared.wiring.Wiring.{Wiring}
 use Rattle.virt_topo.specs.declared.mapping.Mapping.{Mapping}
 use Rattle.virt_topo.specs.Soundness.{IsSound}
 use Rattle.lab_model.specs.Shapes.{Place}
-use Rattle.lab_model.specs.Rules.{keeps_f1, keeps_f6, keeps_f8}
-use Rattle.lab_model.specs.Feasible.{violation, Kept}
+use Rattle.lab_model.specs.Rules.{keeps_f1, keeps_f6, keeps_f7, keeps_f8}
+use Rattle.lab_model.specs.Feasible.{AllPass, violation, Kept}
 use Rattle.lab_model.proofs.FeasibleLaws.{kept_from}
 use Rattle.lab_model.proofs.FirstViolation.{none_found}
 use Rattle.node_maps.specs.NodeMaps.{candidates, IsChoice, plugs_of, if_feasible, node_map}
-use Rattle.node_maps.specs.Moved.{KeepsAll}
+use Rattle.node_maps.specs.Moved.{may_share, has_class_type}
 use Rattle.node_maps.proofs.CandidateLaws.{choice_passes}
 use Rattle.node_maps.proofs.EndLists.{same_length}
 use Rattle.node_maps.proofs.MapLaws.{mapped_is, choice_within}
 use Rattle.node_maps.proofs.PlugLaws.{rule_keeps_f5}
 use Rattle.node_maps.proofs.Shaped.{shaped}
+
+-- what is left to ask of a choice of candidates with the plugs that the rule gives: F2, F3's words on classes, F6, F7 and F8
+pub record KeepsAll (lab : Lab) (free : Free) (w : Wiring) (places : List Place) (plugs : List IfaceId) : Type 0 where
+  pub given : plugs_of lab w places ≡ Some plugs
+  pub shared : AllPass (length lab.nodes) (may_share lab w places)
+  pub typed : AllPass (length w.nodes) (has_class_type w places)
+  pub room : AllPass (length lab.trunks) (keeps_f6 lab free w (record { places = places; plugs = plugs }))
+  pub joined : AllPass (length w.segments) (keeps_f7 lab w (record { places = places; plugs = plugs }))
+  pub ids : keeps_f8 free w ≡ true
 
 -- all rules are kept
 each_kept : (lab : Lab) (free : Free) (w : Wiring) (places : List Place) (plugs : List IfaceId) → IsSound w → IsChoice (candidates lab free w) places → KeepsAll lab free w places plugs

@@ -1,9 +1,9 @@
 -- One list of candidates for each kind of virtual node.
-use Rattle.std.proofs.Common.{◌≡◌, ◌<◌, ◌+◌, ◌∙◌, ◌++◌, ◌∷◌, ◌&&◌, inl, inr, ◌⊎◌, ℕ, zero, suc, List, [], length, map, filter, get_or, All, false, refl, ap, sym, subst, arith}
+use Rattle.std.proofs.Common.{◌≡◌, ◌<◌, ◌+◌, ◌∙◌, ◌++◌, ◌∷◌, ◌&&◌, inl, inr, ◌⊎◌, ℕ, zero, suc, List, [], length, map, filter, take, get_or, All, Bool, true, false, cond, refl, ap, sym, subst, arith}
 use Rattle.std.proofs.lemmas.Bool.{cases_lt}
 use Rattle.std.proofs.Math.Seq.{get_or-append_seam}
-use Rattle.std.proofs.lemmas.List.{length-append, length-map, get_or-map, get_or_append_left, get_or_default, ext_get_or}
-use Rattle.std.proofs.lemmas.List.Elements.{All-append, All-cons}
+use Rattle.std.proofs.lemmas.List.{length-append, length-map, append-nil, map-append, map_more, get_or-map, get_or_append_left, get_or_default, ext_get_or}
+use Rattle.std.proofs.lemmas.List.Elements.{All-nil, All-append, All-cons, filter_more}
 use Rattle.phys_lab.specs.declared.free.Free.{Free}
 use Rattle.phys_lab.specs.Labs.{Lab}
 use Rattle.virt_topo.specs.declared.wiring.VirtNode.{VirtNode}
@@ -76,6 +76,7 @@ pub kinds_known : (nodes : List VirtNode) (n : ℕ) (ones kinds : List ℕ) (k :
     → AreOfOneKind (get_or nodes (get_or ones k 0) no_virt) (get_or nodes n no_virt) → AreKinds nodes (n + 1) ones (kinds ++ k ∷ [])
 kinds_known nodes n ones kinds k are lt alike = record {
   first = are.first;
+  apart = are.apart;
   one_each = omega (arith, are.one_each, length-append kinds (k ∷ []));
   within = λ v below. by v below (earlier_or v below);
   same = λ v below. one v below (earlier_or v below);
@@ -103,19 +104,80 @@ kinds_known nodes n ones kinds k are lt alike = record {
         subst (λ (j : ℕ). AreOfOneKind (get_or nodes (get_or ones (get_or (kinds ++ k ∷ []) j 0) 0) no_virt) (get_or nodes j no_virt)) (sym same)
         (subst (λ (j : ℕ). AreOfOneKind (get_or nodes (get_or ones j 0) no_virt) (get_or nodes n no_virt)) (sym last) alike)
 
--- kinds are as they were where one more is behind them
-kinds_more : (nodes : List VirtNode) (n : ℕ) (ones kinds : List ℕ) → n < length nodes → AreKinds nodes n ones kinds → AreKinds nodes n (ones ++ n ∷ []) kinds
-kinds_more nodes n ones kinds lt are = record {
+-- kinds are as they were where one more is behind them, which is none of them
+kinds_more : (nodes : List VirtNode) (n : ℕ) (ones kinds : List ℕ) → n < length nodes
+    → ((k : ℕ) → k < length ones → AreOfOneKind (get_or nodes (get_or ones k 0) no_virt) (get_or nodes n no_virt) → ⊥)
+    → AreKinds nodes n ones kinds → AreKinds nodes n (ones ++ n ∷ []) kinds
+kinds_more nodes n ones kinds lt none are = record {
   first = All-append (λ v. v < length nodes) ones (n ∷ []) are.first (All-cons (λ v. v < length nodes) n [] lt (λ k d less. absurd (omega (arith, less))));
+  apart = λ j k less below. differ j k less (elim (cases_lt k (length ones)) [
+    | inl before ↦ inl before
+    | inr behind ↦ inr (omega (arith, behind, below, length-append ones (n ∷ [])))
+  ]);
   one_each = are.one_each;
   within = λ v before. omega (arith, are.within v before, length-append ones (n ∷ []));
   same = λ v before.
-      subst (λ (j : ℕ). AreOfOneKind (get_or nodes j no_virt) (get_or nodes v no_virt)) (sym (get_or_append_left ones (n ∷ []) 0 (get_or kinds v 0) (are.within v before))) (are.same v before);
+      subst (λ (j : ℕ). AreOfOneKind (get_or nodes j no_virt) (get_or nodes v no_virt)) (sym (at (get_or kinds v 0) (are.within v before))) (are.same v before);
 }
+  where
+    at : (k : ℕ) → k < length ones → get_or (ones ++ n ∷ []) k 0 ≡ get_or ones k 0
+    at k before = get_or_append_left ones (n ∷ []) 0 k before
+
+    moved : (j k m : ℕ) → j < length ones → get_or (ones ++ n ∷ []) k 0 ≡ m → AreOfOneKind (get_or nodes (get_or (ones ++ n ∷ []) j 0) no_virt) (get_or nodes (get_or (ones ++ n ∷ []) k 0) no_virt)
+        → AreOfOneKind (get_or nodes (get_or ones j 0) no_virt) (get_or nodes m no_virt)
+    moved j k m before is alike =
+        subst (λ (i : ℕ). AreOfOneKind (get_or nodes i no_virt) (get_or nodes m no_virt)) (at j before)
+        (subst (λ (i : ℕ). AreOfOneKind (get_or nodes (get_or (ones ++ n ∷ []) j 0) no_virt) (get_or nodes i no_virt)) is alike)
+
+    differ : (j k : ℕ) → j < k → (k < length ones) ⊎ (k ≡ length ones) → AreOfOneKind (get_or nodes (get_or (ones ++ n ∷ []) j 0) no_virt) (get_or nodes (get_or (ones ++ n ∷ []) k 0) no_virt) → ⊥
+    differ j k less (inl before) alike = are.apart j k less before (moved j k (get_or ones k 0) (omega (arith, less, before)) (at k before) alike)
+    differ j k less (inr same) alike =
+        none j (omega (arith, less, same)) (moved j k n (omega (arith, less, same)) (ap (λ (i : ℕ). get_or (ones ++ n ∷ []) i 0) same ∙ get_or-append_seam ones n [] 0) alike)
 
 -- one virtual node more, the first one of its kind
-pub kinds_new : (nodes : List VirtNode) (n : ℕ) (ones kinds : List ℕ) → n < length nodes → AreKinds nodes n ones kinds
-    → AreKinds nodes (n + 1) (ones ++ n ∷ []) (kinds ++ length ones ∷ [])
-kinds_new nodes n ones kinds lt are =
-    kinds_known nodes n (ones ++ n ∷ []) kinds (length ones) (kinds_more nodes n ones kinds lt are) (omega (arith, length-append ones (n ∷ [])))
+pub kinds_new : (nodes : List VirtNode) (n : ℕ) (ones kinds : List ℕ) → n < length nodes
+    → ((k : ℕ) → k < length ones → AreOfOneKind (get_or nodes (get_or ones k 0) no_virt) (get_or nodes n no_virt) → ⊥)
+    → AreKinds nodes n ones kinds → AreKinds nodes (n + 1) (ones ++ n ∷ []) (kinds ++ length ones ∷ [])
+kinds_new nodes n ones kinds lt none are =
+    kinds_known nodes n (ones ++ n ∷ []) kinds (length ones) (kinds_more nodes n ones kinds lt none are) (omega (arith, length-append ones (n ∷ [])))
     (subst (λ (j : ℕ). AreOfOneKind (get_or nodes j no_virt) (get_or nodes n no_virt)) (sym (get_or-append_seam ones n [] 0)) (record { asks = refl; desires = refl; fixed = refl }))
+
+-- one number more of a list of numbers
+pub numbers_more : (places : List Place) (lists more : List (List ℕ)) (own : List ℕ) → AreNumbers places lists → All (λ k. k < length places) own → more ≡ lists ++ own ∷ [] → AreNumbers places more
+numbers_more places lists more own are here pushed =
+    let P : List ℕ → Type 0 = λ numbers. All (λ k. k < length places) numbers in
+    subst (All P) (sym pushed) (All-append P lists (own ∷ []) are (All-cons P own [] here (All-nil P)))
+
+-- what is made of each, where one more was pushed
+pub mapped_more : {X Y : Type 0} (f : X → Y) (xs : List X) (n : ℕ) (d : X) (ys more : List Y) (y : Y) → n < length xs → ys ≡ map f (take n xs) → y ≡ f (get_or xs n d) → more ≡ ys ++ y ∷ []
+    → more ≡ map f (take (n + 1) xs)
+mapped_more f xs n d ys more y lt before here pushed = pushed ∙ (λ j. before j ++ here j ∷ []) ∙ sym (map_more f xs n d lt)
+
+-- the same, where the one was read
+pub read_more : {X Y : Type 0} (f : X → Y) (xs : List X) (n : ℕ) (x : X) (ys more : List Y) (y : Y) → n < length xs → x ≡ get_or xs n x → ys ≡ map f (take n xs) → y ≡ f x → more ≡ ys ++ y ∷ []
+    → more ≡ map f (take (n + 1) xs)
+read_more f xs n x ys more y lt is before here pushed = mapped_more f xs n x ys more y lt before (here ∙ ap f is) pushed
+
+-- the same of what is made in two steps
+pub maps_more : {X Y Z : Type 0} (f : Y → Z) (g : X → Y) (xs : List X) (n : ℕ) (x : X) (zs more : List Z) (z : Z) → n < length xs → x ≡ get_or xs n x → zs ≡ map f (map g (take n xs)) → z ≡ f (g x)
+    → more ≡ zs ++ z ∷ [] → more ≡ map f (map g (take (n + 1) xs))
+maps_more f g xs n x zs more z lt is before here pushed =
+    pushed ∙ (λ j. before j ++ (here ∙ ap (λ a. f (g a)) is) j ∷ []) ∙ sym (ap (map f) (map_more g xs n x lt) ∙ map-append f (map g (take n xs)) (g (get_or xs n x) ∷ []))
+
+-- the places of lists of numbers, where one more was pushed
+pub listed_more : (places : List Place) (f : ℕ → List Place) (ones : List ℕ) (n : ℕ) (lists more : List (List ℕ)) (own : List ℕ) → n < length ones
+    → listed places lists ≡ map f (take n ones) → places_of places own ≡ f (get_or ones n 0) → more ≡ lists ++ own ∷ [] → listed places more ≡ map f (take (n + 1) ones)
+listed_more places f ones n lists more own lt before here pushed =
+    mapped_more f ones n 0 (listed places lists) (listed places more) (places_of places own) lt before here (ap (listed places) pushed ∙ map-append (places_of places) lists (own ∷ []))
+
+-- one place more among these places: its number is kept where the place passes
+pub place_passes : (p : Place → Bool) (places : List Place) (n : ℕ) (x : Place) (numbers : List ℕ) → n < length places → x ≡ get_or places n x → places_of places numbers ≡ filter p (take n places)
+    → p x ≡ true → places_of places (numbers ++ n ∷ []) ≡ filter p (take (n + 1) places)
+place_passes p places n x numbers lt is before passes =
+    map-append (place_of places) numbers (n ∷ []) ∙ (λ j. before j ++ get_or_default places n no_place x lt j ∷ [])
+    ∙ sym (filter_more p places n x lt ∙ ap (λ (b : Bool). filter p (take n places) ++ cond b (get_or places n x ∷ []) []) (ap p (sym is) ∙ passes))
+
+pub place_fails : (p : Place → Bool) (places : List Place) (n : ℕ) (x : Place) (numbers : List ℕ) → n < length places → x ≡ get_or places n x → places_of places numbers ≡ filter p (take n places)
+    → p x ≡ false → places_of places numbers ≡ filter p (take (n + 1) places)
+place_fails p places n x numbers lt is before fails =
+    before ∙ sym (filter_more p places n x lt ∙ ap (λ (b : Bool). filter p (take n places) ++ cond b (get_or places n x ∷ []) []) (ap p (sym is) ∙ fails) ∙ append-nil (filter p (take n places)))

@@ -11,9 +11,11 @@ pub record AreOfOneKind (u v : VirtNode) : Type 0 where
   pub desires : u.desires ≡ v.desires
   pub fixed : u.fixed ≡ v.fixed
 
--- by kind one virtual node of it, and by virtual node its kind, of the first n
+-- by kind one virtual node of it, and by virtual node its kind, of the first n; no two kinds are one
 pub record AreKinds (nodes : List VirtNode) (n : ℕ) (ones kinds : List ℕ) : Type 0 where
   pub first : All (λ v. v < length nodes) ones
+  pub apart : (j k : ℕ) → j < k → k < length ones
+      → AreOfOneKind (slice_index_or nodes (slice_index_or ones j 0) no_virt) (slice_index_or nodes (slice_index_or ones k 0) no_virt) → ⊥
   pub one_each : length kinds ≡ n
   pub within : (v : ℕ) → v < n → slice_index_or kinds v 0 < length ones
   pub same : (v : ℕ) → v < n

@@ -1,14 +1,11 @@
 -- The facts of a node map, part by part, and places that differ on two nodes alone.
-use Rattle.std.specs.Prelude.{◌≡◌, ◌⊎◌, ◌<◌, ℕ, Bool, true, List, [], length, Some, slice_index_or}
-use Rattle.lab_base.specs.declared.ids.IfaceId.{IfaceId}
-use Rattle.phys_lab.specs.declared.free.Free.{Free}
+use Rattle.std.specs.Prelude.{◌≡◌, ◌⊎◌, ◌<◌, ℕ, Bool, true, List, [], length, slice_index_or}
 use Rattle.phys_lab.specs.Labs.{Lab}
 use Rattle.virt_topo.specs.declared.wiring.Wiring.{Wiring}
 use Rattle.virt_topo.specs.Wirings.{virt_at}
 use Rattle.lab_model.specs.Shapes.{Place, node_at}
-use Rattle.lab_model.specs.Rules.{agree, guests, is_of_one_type, keeps_f6, keeps_f7, keeps_f8, no_place}
+use Rattle.lab_model.specs.Rules.{agree, guests, is_of_one_type, no_place}
 use Rattle.lab_model.specs.Feasible.{AllPass}
-use Rattle.node_maps.specs.NodeMaps.{plugs_of}
 
 -- F2 on one node among these places
 abbrev pub may_share : Lab → Wiring → List Place → ℕ → Bool
@@ -17,15 +14,6 @@ may_share lab w places n = agree (node_at lab (record { 0 = n })).types (guests 
 -- F3's words on classes of weight 1000 or more, for one virtual node
 abbrev pub has_class_type : Wiring → List Place → ℕ → Bool
 has_class_type w places v = is_of_one_type w (record { places = places; plugs = [] }) (virt_at w v).asks (slice_index_or places v no_place).1
-
--- what is left to ask of a choice of candidates with the plugs that the rule gives: F2, F3's words on classes, F6, F7 and F8
-pub record KeepsAll (lab : Lab) (free : Free) (w : Wiring) (places : List Place) (plugs : List IfaceId) : Type 0 where
-  pub given : plugs_of lab w places ≡ Some plugs
-  pub shared : AllPass (length lab.nodes) (may_share lab w places)
-  pub typed : AllPass (length w.nodes) (has_class_type w places)
-  pub room : AllPass (length lab.trunks) (keeps_f6 lab free w (record { places = places; plugs = plugs }))
-  pub joined : AllPass (length w.segments) (keeps_f7 lab w (record { places = places; plugs = plugs }))
-  pub ids : keeps_f8 free w ≡ true
 
 -- F2 on two nodes, and F3's words on classes
 pub record KeepsPlaces (lab : Lab) (w : Wiring) (places : List Place) (a b : ℕ) : Type 0 where

@@ -153,6 +153,27 @@ impl Given {
     }
 }
 
+/// Gives each end its interface, where its virtual node is placed. False where some end gets none.
+fn give(
+    alloc: Global,
+    lab: &Lab,
+    places: &[Place],
+    ends: &[End],
+    given: &mut Given,
+) -> Result<bool, Memory>
+    requires ends { AreOrdered ends.now }
+    requires nothing { Marks lab.now given.old [] }
+    ensures { IfOk result (λ yes. plugs_from lab.now places.now ends.now ≡ (if yes then Some given.new.plugs else None)) }
+{
+    let index = NodeIfaces::of_places(alloc, lab, places)?;
+    for end in ends {
+        if !given.add(lab, &index, places, *end)? {
+            return Ok(false);
+        }
+    }
+    Ok(true)
+}
+
 /// The interface rule for the ends whose virtual nodes are placed.
 /// Each takes the first interface of its node that may bear it beside the earlier ends. None where some end gets none.
 pub fn serve(
@@ -164,12 +185,10 @@ pub fn serve(
     requires { AreOrdered ends.now }
     ensures { IfOk result (λ plugs. plugs ≡ plugs_from lab.now places.now ends.now) }
 {
-    let index = NodeIfaces::of_places(alloc, lab, places)?;
     let mut given = Given::nothing(alloc, lab)?;
-    for end in ends {
-        if !given.add(lab, &index, places, *end)? {
-            return Ok(None);
-        }
+    if give(alloc, lab, places, ends, &mut given)? {
+        Ok(Some(given.plugs))
+    } else {
+        Ok(None)
     }
-    Ok(Some(given.plugs))
 }

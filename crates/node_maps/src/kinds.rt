@@ -1,5 +1,5 @@
 // Kinds of virtual nodes.
-ghost use Rattle.std.specs.Prelude.{◌≡◌, ◌<◌, ◌+◌, length, All, slice_index_or, IsTrue, IfOk, IfSome, OnOk};
+ghost use Rattle.std.specs.Prelude.{◌≡◌, ◌↔◌, ◌<◌, ◌+◌, ℕ, length, All, slice_index_or, IsTrue, IfOk, IfNone, IfSome, OnOk};
 ghost use Rattle.virt_topo.specs.Wirings.{no_virt};
 ghost use Rattle.node_maps.specs.Kinds.{AreKinds, AreOfOneKind};
 
@@ -9,7 +9,7 @@ use virt_topo::{Asks, VirtNode};
 
 /// Whether two virtual nodes ask for one type, or for one class.
 fn ask_alike(one: Asks, other: Asks) -> bool
-    ensures { IsTrue result → one ≡ other }
+    ensures { IsTrue result ↔ (one ≡ other) }
 {
     match one {
         Asks::Plain(kind) => match other {
@@ -25,7 +25,7 @@ fn ask_alike(one: Asks, other: Asks) -> bool
 
 /// Whether two virtual nodes have to be on one node, or both on any.
 fn are_fixed_alike(one: Option<Name>, other: Option<Name>) -> bool
-    ensures { IsTrue result → one ≡ other }
+    ensures { IsTrue result ↔ (one ≡ other) }
 {
     match one {
         Some(node) => match other {
@@ -38,14 +38,14 @@ fn are_fixed_alike(one: Option<Name>, other: Option<Name>) -> bool
 
 /// Whether two desires are of one feature, with one weight.
 fn is_one_desire(one: (Name, u32), other: (Name, u32)) -> bool
-    ensures { IsTrue result → one ≡ other }
+    ensures { IsTrue result ↔ (one ≡ other) }
 {
     one.0 == other.0 && one.1 == other.1
 }
 
 /// Whether two virtual nodes have the same desires, in one order.
 fn desire_alike(one: &[(Name, u32)], other: &[(Name, u32)]) -> bool
-    ensures { IsTrue result → one.now ≡ other.now }
+    ensures { IsTrue result ↔ (one.now ≡ other.now) }
 {
     if one.len() != other.len() {
         return false;
@@ -60,7 +60,7 @@ fn desire_alike(one: &[(Name, u32)], other: &[(Name, u32)]) -> bool
 
 /// Whether two virtual nodes are of one kind.
 fn are_of_one_kind(one: &VirtNode, other: &VirtNode) -> bool
-    ensures { IsTrue result → AreOfOneKind one.now other.now }
+    ensures { IsTrue result ↔ AreOfOneKind one.now other.now }
 {
     ask_alike(one.asks, other.asks)
         && are_fixed_alike(one.fixed, other.fixed)
@@ -73,6 +73,8 @@ fn kind_of(nodes: &[VirtNode], ones: &[usize], virt: usize) -> Option<usize>
     requires virt { virt < length nodes.now }
     ensures within { IfSome result (λ k. k < length ones.now) }
     ensures same { IfSome result (λ k. AreOfOneKind (slice_index_or nodes.now (slice_index_or ones.now k 0) no_virt) (slice_index_or nodes.now virt no_virt)) }
+    ensures none { IfNone result ((k : ℕ) → k < length ones.now
+        → AreOfOneKind (slice_index_or nodes.now (slice_index_or ones.now k 0) no_virt) (slice_index_or nodes.now virt no_virt) → ⊥) }
 {
     for kind in 0..ones.len() {
         if are_of_one_kind(&nodes[ones[kind]], &nodes[virt]) {

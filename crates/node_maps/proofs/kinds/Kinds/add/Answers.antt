@@ -23,6 +23,7 @@ returns-in_ok-push-in-None-2 c =
     let v = c.args.virt in
     let count : ◌≡◌ {A = ℕ} c.len.result (length old.ones.items) = omega (arith, c.len.ensures, old.ones.ok.0) in
     let kinds : c.push-in-None.new.self.items ≡ old.kinds.items ++ length old.ones.items ∷ [] = c.in_ok-push-in-None.ensures.items ∙ ap (λ (n : ℕ). old.kinds.items ++ n ∷ []) count in
+    let none = subst (λ (l : List ℕ). (k : ℕ) → k < length l → AreOfOneKind (get_or nodes (get_or l k 0) no_virt) (get_or nodes v no_virt) → ⊥) c.deref.ensures.value c.in-None.ensures.none in
     subst (λ (l : List ℕ). AreKinds nodes (v + 1) l c.push-in-None.new.self.items) (sym c.in_ok-push-in-None-2.ensures.items)
     (subst (λ (l : List ℕ). AreKinds nodes (v + 1) (old.ones.items ++ v ∷ []) l) (sym kinds)
-    (kinds_new nodes v old.ones.items old.kinds.items c.requires.virt c.requires.kinds))
+    (kinds_new nodes v old.ones.items old.kinds.items c.requires.virt none c.requires.kinds))

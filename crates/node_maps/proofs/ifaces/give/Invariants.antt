@@ -3,7 +3,7 @@ use Rattle.lab_model.specs.Rules.{Laid}
 use Rattle.node_maps.specs.declared.ends.End.{End}
 use Rattle.node_maps.specs.Indexed.{Marks}
 use Rattle.node_maps.specs.NodeMaps.{laid_from}
-use Rattle.node_maps.proofs.ifaces.serve.Given as goal
+use Rattle.node_maps.proofs.ifaces.give.Given as goal
 
 abbrev pub invariant-loop-end : goal.invariant-loop-end
 invariant-loop-end l = record {
