@@ -21,7 +21,8 @@ use Rattle.lab_model.specs.Shapes.{Place, IsShaped, no_node}
 use Rattle.lab_model.specs.Rules.{no_place, place_at}
 use Rattle.lab_model.specs.Wants.{node_name, os_on, place_of}
 use Rattle.swap_plan.proofs.PipeLaws.{placed, pipe_there}
-use Rattle.swap_plan.specs.Plans.{untagged, host_if, hosts_at, hosts_by, pipes_at, Host}
+use Rattle.swap_plan.specs.Plans.{untagged, host_if, hosts_at, pipes_at, Host}
+use Rattle.swap_plan.proofs.Hosts.{hosts_by}
 
 pub names_differ : (lab : Lab) → IsLab lab → AllDiffer (node_names lab)
 names_differ lab is = Apart-right (λ x y. x ≢ y) lab.switches (node_names lab) is.devices_differ
@@ -184,3 +185,7 @@ table_more f lab k x old new lt is before adds =
 
 pub table_all : {X : Type 0} (f : List ℕ → X) (lab : Lab) (k : ℕ) (table : List X) → length lab.nodes ≤ k → table ≡ map f (take k (node_names lab)) → table ≡ map f (node_names lab)
 table_all f lab k table past before = before ∙ ap (map f) (take_all k (node_names lab) (omega (arith, past, length-map lab.nodes (λ node. node.name))))
+
+-- what has one for each node's name has one for each node
+pub one_for_each : {X : Type 0} (lab : Lab) (f : List ℕ → X) (xs : List X) → xs ≡ map f (node_names lab) → length xs ≡ length lab.nodes
+one_for_each lab f xs are = ap length are ∙ length-map (node_names lab) f ∙ length-map lab.nodes (λ node. node.name)

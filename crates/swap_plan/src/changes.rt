@@ -6,9 +6,9 @@ ghost use Rattle.lab_base.specs.Lists.{Has};
 ghost use Rattle.lab_model.specs.Courses.{node_names, commands, undo};
 ghost use Rattle.lab_model.specs.Kept.{is_kept};
 ghost use Rattle.virt_topo.specs.declared.wiring.Pipe.{Pipe as PipeSeen};
-ghost use Rattle.swap_plan.specs.Plans.{IsFit, are_same, both_os, fresh_os, wiped_os, hosts_at, changed};
+ghost use Rattle.swap_plan.specs.Plans.{IsFit, are_same, both_os, fresh_os, wiped_os, hosts_at, rows_from, changed};
 ghost use Rattle.swap_plan.specs.Tables.{IsTable};
-ghost use Rattle.swap_plan.specs.Changes.{IsChange};
+ghost use Rattle.swap_plan.specs.Changes.{IsChange, IsFresh};
 
 use crate::loads::plug_name;
 use crate::plans::{building, leaves, push_wipes};
@@ -158,14 +158,23 @@ fn push_node(fresh: &mut Fresh, node: FreshNode) -> Result<(), Memory>
     Ok(())
 }
 
+/// The rows that a mapping wants.
+fn mapped_rows(alloc: Global, lab: &Lab, mapped: &Mapped) -> Result<Vec<Port>, Memory>
+    requires { IsFit lab.now mapped.now }
+    ensures { IfOk result (λ rows. rows.items ≡ rows_from lab.now (mapped.now).wiring.segments (mapped.now).mapping.plugs (mapped.now).tags) }
+{
+    rows_of(
+        alloc,
+        lab,
+        &mapped.wiring,
+        &mapped.mapping,
+        mapped.tags.as_slice(),
+    )
+}
+
 fn fresh_nodes(alloc: Global, change: &Change) -> Result<Fresh, Memory>
     requires { IsChange change.now }
-    ensures leaving { IfOk result (λ fresh. fresh.leaving.items
-        ≡ map (fresh_os (change.now).lab.now (change.now).old.now (change.now).new.now (change.now).old.now) (node_names (change.now).lab.now)) }
-    ensures coming { IfOk result (λ fresh. fresh.coming.items
-        ≡ map (fresh_os (change.now).lab.now (change.now).old.now (change.now).new.now (change.now).new.now) (node_names (change.now).lab.now)) }
-    ensures wiped { IfOk result (λ fresh. fresh.wiped.items
-        ≡ map (wiped_os (change.now).lab.now (change.now).old.now (change.now).new.now) (node_names (change.now).lab.now)) }
+    ensures { IfOk result (IsFresh change.now) }
 {
     let mut fresh = Fresh {
         leaving: Vec::new(alloc),
@@ -179,36 +188,106 @@ fn fresh_nodes(alloc: Global, change: &Change) -> Result<Fresh, Memory>
     Ok(fresh)
 }
 
-/// The commands that clear these rows and nodes away, and then build a mapping on them.
+/// Rows, and by node of the lab an OS, where the node is meant.
+#[derive(Clone, Copy)]
+struct Part<'a> {
+    rows: &'a [Port],
+    oses: &'a [Option<Name>],
+}
+
+/// The commands that clear rows and nodes away, and then build a mapping on others.
 fn changing(
     alloc: Global,
     lab: &Lab,
     mapped: &Mapped,
     table: &NodeTable,
-    left: &[Port],
-    wiped: &[Option<Name>],
-    rows: &[Port],
-    oses: &[Option<Name>],
+    left: &Part,
+    wanted: &Part,
 ) -> Result<Commands, Memory>
     requires fit { IsFit lab.now mapped.now }
     requires table { IsTable lab.now (mapped.now).wiring (mapped.now).mapping table.now }
-    requires wiped { length wiped.now ≡ length lab.now.nodes }
-    requires oses { length oses.now ≡ length lab.now.nodes }
-    ensures { IfOk result (λ commands. commands
-        ≡ changed lab.now mapped.now left.now (hosts_at (node_names lab.now) wiped.now) rows.now (hosts_at (node_names lab.now) oses.now)) }
+    requires left { length (left.now).oses.now ≡ length lab.now.nodes }
+    requires wanted { length (wanted.now).oses.now ≡ length lab.now.nodes }
+    ensures { IfOk result (λ commands. commands ≡ changed lab.now mapped.now (left.now).rows.now (hosts_at (node_names lab.now) (left.now).oses.now)
+        (wanted.now).rows.now (hosts_at (node_names lab.now) (wanted.now).oses.now)) }
 {
-    let mut clear = leaves(alloc, left)?;
-    push_wipes(&mut clear, lab, wiped)?;
+    let mut clear = leaves(alloc, left.rows)?;
+    push_wipes(&mut clear, lab, left.oses)?;
     let built = building(
         alloc,
         lab,
         &mapped.wiring,
         &mapped.mapping,
         table,
-        rows,
-        oses,
+        wanted.rows,
+        wanted.oses,
     )?;
     Ok(Commands { clear, ..built })
+}
+
+/// The commands of a change and of its undo, by the rows under the old mapping and those under the new one.
+fn ops_by(
+    alloc: Global,
+    change: &Change,
+    left: &[Port],
+    rows: &[Port],
+    fresh: &Fresh,
+) -> Result<Ops, Memory>
+    requires change { IsChange change.now }
+    requires left { left.now ≡ rows_from (change.now).lab.now (change.now).old.now.wiring.segments
+        (change.now).old.now.mapping.plugs (change.now).old.now.tags }
+    requires rows { rows.now ≡ rows_from (change.now).lab.now (change.now).new.now.wiring.segments
+        (change.now).new.now.mapping.plugs (change.now).new.now.tags }
+    requires fresh { IsFresh change.now fresh.now }
+    ensures commands { IfOk result (λ ops. ops.commands ≡ commands (change.now).lab.now (Some (change.now).old.now) (Some (change.now).new.now)) }
+    ensures undo { IfOk result (λ ops. ops.undo ≡ undo (change.now).lab.now (Some (change.now).old.now) (Some (change.now).new.now)) }
+    ensures inside { IfOk result (λ ops. ops.inside ≡ true) }
+{
+    let leaving = Part {
+        rows: left,
+        oses: &fresh.leaving,
+    };
+    let coming = Part {
+        rows,
+        oses: &fresh.coming,
+    };
+    let wiped = Part {
+        rows,
+        oses: &fresh.wiped,
+    };
+    let commands = changing(
+        alloc,
+        change.lab,
+        change.new,
+        change.after,
+        &leaving,
+        &coming,
+    )?;
+    let undo = changing(
+        alloc,
+        change.lab,
+        change.old,
+        change.before,
+        &wiped,
+        &leaving,
+    )?;
+    Ok(Ops {
+        commands,
+        undo,
+        inside: true,
+    })
+}
+
+fn ops_of(alloc: Global, change: &Change) -> Result<Ops, Memory>
+    requires { IsChange change.now }
+    ensures commands { IfOk result (λ ops. ops.commands ≡ commands (change.now).lab.now (Some (change.now).old.now) (Some (change.now).new.now)) }
+    ensures undo { IfOk result (λ ops. ops.undo ≡ undo (change.now).lab.now (Some (change.now).old.now) (Some (change.now).new.now)) }
+    ensures inside { IfOk result (λ ops. ops.inside ≡ true) }
+{
+    let left = mapped_rows(alloc, change.lab, change.old)?;
+    let rows = mapped_rows(alloc, change.lab, change.new)?;
+    let fresh = fresh_nodes(alloc, change)?;
+    ops_by(alloc, change, &left, &rows, &fresh)
 }
 
 /// The commands of a change and of its undo.
@@ -219,8 +298,6 @@ pub fn plan_change(alloc: Global, lab: &Lab, old: &Mapped, new: &Mapped) -> Resu
     ensures undo { IfOk result (λ ops. ops.undo ≡ undo lab.now (Some old.now) (Some new.now)) }
     ensures inside { IfOk result (λ ops. ops.inside ≡ true) }
 {
-    let left = rows_of(alloc, lab, &old.wiring, &old.mapping, old.tags.as_slice())?;
-    let rows = rows_of(alloc, lab, &new.wiring, &new.mapping, new.tags.as_slice())?;
     let before = NodeTable::of(alloc, lab, &old.wiring, &old.mapping)?;
     let after = NodeTable::of(alloc, lab, &new.wiring, &new.mapping)?;
     let change = Change {
@@ -230,30 +307,5 @@ pub fn plan_change(alloc: Global, lab: &Lab, old: &Mapped, new: &Mapped) -> Resu
         before: &before,
         after: &after,
     };
-    let fresh = fresh_nodes(alloc, &change)?;
-    let commands = changing(
-        alloc,
-        lab,
-        new,
-        &after,
-        &left,
-        &fresh.leaving,
-        &rows,
-        &fresh.coming,
-    )?;
-    let undo = changing(
-        alloc,
-        lab,
-        old,
-        &before,
-        &rows,
-        &fresh.wiped,
-        &left,
-        &fresh.leaving,
-    )?;
-    Ok(Ops {
-        commands,
-        undo,
-        inside: true,
-    })
+    ops_of(alloc, &change)
 }
