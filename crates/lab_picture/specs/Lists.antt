@@ -34,8 +34,11 @@ run_boxes g k n None = []
 run_boxes g k n (Some f) = filled (bar_word f.bar) (codes "bare") (run_area g k n 0 6) ++ filled (tint_word f.tint) (codes "bare") (run_area g k n 6 8)
 
 -- A RUN OF VLAN IDS that an experiment claims
+unfoldable pub run_title : View → ℕ → ℕ → ℕ → List ℕ
+run_title v k n exp = tag tags.Titled ++ exp_name v exp ++ codes ": " ++ decimal n ++ codes " from " ++ decimal (v.low + k) ++ tag tags.OnEnd
+
 unfoldable pub run_text : Geometry → View → ℕ → ℕ → ℕ → List ℕ
-run_text g v k n exp = tag tags.Titled ++ exp_name v exp ++ codes ": " ++ decimal n ++ codes " from " ++ decimal (v.low + k) ++ tag tags.OnEnd ++ run_boxes g k n (flag_of_exp v exp) ++ tag tags.GroupEnd
+run_text g v k n exp = run_title v k n exp ++ run_boxes g k n (flag_of_exp v exp) ++ tag tags.GroupEnd
 
 abbrev pub run_of : Geometry → View → ℕ → Option ℕ → List ℕ
 run_of g v k None = []
@@ -81,9 +84,11 @@ claim_words e = stand_word e.stand ++ codes ", " ++ decimal e.nodes ++ plural e.
 abbrev pub swatch : Point → Place
 swatch p = record { x = p.x; y = p.y; wide = 32; high = 15 }
 
+unfoldable pub entry_words : Geometry → Point → Exp → List ℕ
+entry_words g p e = label (name_class e.stand) (p.x + 44) (p.y + 12) e.name ++ label (codes "k") (p.x + g.second) (p.y + 12) (claim_words e)
+
 unfoldable pub entry_text : Geometry → View → ℕ → Point → Exp → List ℕ
-entry_text g v n p e = coloured false (flag_of_exp v n) (held_of e.stand) (swatch p) ++ label (name_class e.stand) (p.x + 44) (p.y + 12) e.name
-    ++ label (codes "k") (p.x + g.second) (p.y + 12) (claim_words e)
+entry_text g v n p e = coloured false (flag_of_exp v n) (held_of e.stand) (swatch p) ++ entry_words g p e
 
 abbrev pub entry_in : Geometry → View → ℕ → Option Exp → List ℕ
 entry_in g v n None = []

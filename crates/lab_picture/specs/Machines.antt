@@ -121,11 +121,11 @@ tip v m = tag tags.Title ++ m.name ++ flat_map type_words m.types ++ codes "\non
 unfoldable pub free_body : Place → Machine → List ℕ
 free_body p m = rect (codes "free") (area_of p) ++ label (codes "f") (p.x + 14) (p.y + 19) m.name ++ label (codes "k") (p.x + 14) (p.y + 33) (listed (letters_in p.wide) (map (λ t. t.0) m.types))
 
-unfoldable pub held_words : View → Place → Seat → List ℕ
-held_words v p s = label (codes "e") (p.x + 14) (p.y + 26) (fitted (letters_in p.wide) (exp_name v s.exp)) ++ label (codes "v") (p.x + 14) (p.y + 38) (listed (letters_in p.wide) s.guests)
+unfoldable pub held_words : View → Place → Machine → Seat → List ℕ
+held_words v p m s = label (codes "m") (p.x + 14) (p.y + 14) m.name ++ label (codes "e") (p.x + 14) (p.y + 26) (fitted (letters_in p.wide) (exp_name v s.exp)) ++ label (codes "v") (p.x + 14) (p.y + 38) (listed (letters_in p.wide) s.guests)
 
 unfoldable pub held_body : View → Place → Machine → Seat → List ℕ
-held_body v p m s = coloured true (flag_of_exp v s.exp) s.held p ++ label (codes "m") (p.x + 14) (p.y + 14) m.name ++ held_words v p s
+held_body v p m s = coloured true (flag_of_exp v s.exp) s.held p ++ held_words v p m s
 
 unfoldable pub body : View → Place → Machine → Option Seat → List ℕ
 body v p m None = free_body p m

@@ -1,8 +1,11 @@
 // The lists below a lab: its VLAN ids, and its experiments.
-ghost use Rattle.std.specs.Prelude.{◌≡◌, ◌++◌, ◌≤◌, ◌<◌, ◌^◌, ◌+◌, length, flat_map, IfOk, OnOk};
+ghost use Rattle.std.specs.Prelude.{◌≡◌, ◌++◌, ◌≤◌, ◌<◌, ◌^◌, ◌+◌, false, length, flat_map, IfOk, OnOk};
 ghost use Rattle.std.specs.List.{range_with_len};
+ghost use Rattle.lab_view.specs.Flags.{tints_of, flag_of_exp};
+ghost use Rattle.lab_view.specs.Runs.{run_length};
 ghost use Rattle.lab_picture.specs.Places.{point_at};
-ghost use Rattle.lab_picture.specs.Lists.{run_wide, run_area, run_boxes, run_text, run_of, run_at, ids_words, strip_text, held_of, stand_word, name_class, plural, claim_words, swatch, entry_text, entry_at, list_head, list_text};
+ghost use Rattle.lab_picture.specs.Machines.{coloured};
+ghost use Rattle.lab_picture.specs.Lists.{run_wide, run_area, run_boxes, run_title, run_text, run_of, run_at, ids_words, strip_text, held_of, stand_word, name_class, plural, claim_words, swatch, entry_words, entry_at, list_head, list_text};
 
 use crate::bars::{bar_word, push_coloured, tint_word};
 use crate::geometry::{Geometry, Place, Point, mark_at, point_at};
@@ -64,18 +67,17 @@ fn push_boxes(
     }
 }
 
-/// A run of VLAN ids that an experiment claims.
-#[tactic(auto, unfolding(crate::specs::Lists::run_text))]
-fn push_run(
+/// The words that a pointer over a run of VLAN ids shows.
+#[tactic(auto, unfolding(crate::specs::Lists::run_title))]
+fn push_run_title(
     text: &mut Text,
-    geometry: &Geometry,
     view: &View,
     first: usize,
     count: usize,
     exp: usize,
 ) -> Result<(), Memory>
-    requires few { first + count < 2 ^ 32 }
-    ensures { OnOk result (text.new ≡ text.old ++ run_text geometry.now view.now first count exp) }
+    requires few { first < 2 ^ 32 }
+    ensures { OnOk result (text.new ≡ text.old ++ run_title view.now first count exp) }
 {
     text.push_bytes(tag(Piece::Titled))?;
     text.push_bytes(exp_name(view, exp))?;
@@ -83,8 +85,28 @@ fn push_run(
     text.push_number(count as u64)?;
     text.push_bytes(b" from ")?;
     text.push_number(u64::from(view.low) + first as u64)?;
-    text.push_bytes(tag(Piece::OnEnd))?;
-    push_boxes(text, geometry, first, count, flag_of_exp(view, exp))?;
+    text.push_bytes(tag(Piece::OnEnd))
+}
+
+/// A run of VLAN ids that an experiment claims.
+#[tactic(auto, unfolding(crate::specs::Lists::run_text))]
+fn push_run(
+    text: &mut Text,
+    geometry: &Geometry,
+    view: &View,
+    tints: &[u8],
+    first: usize,
+    exp: usize,
+) -> Result<(), Memory>
+    requires few { length view.now.owners ≤ MAX_IDS }
+    requires within { first < length view.now.owners }
+    requires tints { tints.now ≡ tints_of view.now }
+    ensures { OnOk result (text.new ≡ text.old ++ run_text geometry.now view.now first (run_length view.now.owners first) exp) }
+{
+    let count = run_length(view.owners.as_slice(), first);
+    let flag = flag_of_exp(view, tints, exp);
+    push_run_title(text, view, first, count, exp)?;
+    push_boxes(text, geometry, first, count, flag)?;
     text.push_bytes(tag(Piece::GroupEnd))
 }
 
@@ -92,18 +114,17 @@ fn push_run_of(
     text: &mut Text,
     geometry: &Geometry,
     view: &View,
+    tints: &[u8],
     place: usize,
     owner: Option<usize>,
 ) -> Result<(), Memory>
     requires few { length view.now.owners ≤ MAX_IDS }
     requires within { place < length view.now.owners }
+    requires tints { tints.now ≡ tints_of view.now }
     ensures { OnOk result (text.new ≡ text.old ++ run_of geometry.now view.now place owner) }
 {
     match owner {
-        Some(exp) => {
-            let count = run_length(view.owners.as_slice(), place);
-            push_run(text, geometry, view, place, count, exp)
-        }
+        Some(exp) => push_run(text, geometry, view, tints, place, exp),
         None => Ok(()),
     }
 }
@@ -112,27 +133,30 @@ fn push_run_at(
     text: &mut Text,
     geometry: &Geometry,
     view: &View,
+    tints: &[u8],
     place: usize,
 ) -> Result<(), Memory>
     requires few { length view.now.owners ≤ MAX_IDS }
     requires within { place < length view.now.owners }
+    requires tints { tints.now ≡ tints_of view.now }
     ensures { OnOk result (text.new ≡ text.old ++ run_at geometry.now view.now place) }
 {
     let owners = view.owners.as_slice();
     if begins_run(owners, place) {
-        push_run_of(text, geometry, view, place, owner_at(owners, place))
+        push_run_of(text, geometry, view, tints, place, owner_at(owners, place))
     } else {
         Ok(())
     }
 }
 
 #[tactic(auto, using(lab_base::proofs::Lists::flat_map_range))]
-fn push_runs(text: &mut Text, geometry: &Geometry, view: &View) -> Result<(), Memory>
-    requires { length view.now.owners ≤ MAX_IDS }
+fn push_runs(text: &mut Text, geometry: &Geometry, view: &View, tints: &[u8]) -> Result<(), Memory>
+    requires few { length view.now.owners ≤ MAX_IDS }
+    requires tints { tints.now ≡ tints_of view.now }
     ensures { OnOk result (text.new ≡ text.old ++ flat_map (run_at geometry.now view.now) (range_with_len 0 (length view.now.owners))) }
 {
     for place in 0..view.owners.len() {
-        push_run_at(text, geometry, view, place)?;
+        push_run_at(text, geometry, view, tints, place)?;
     }
     Ok(())
 }
@@ -158,8 +182,10 @@ pub(crate) fn push_strip(
     text: &mut Text,
     geometry: &Geometry,
     view: &View,
+    tints: &[u8],
 ) -> Result<(), Memory>
-    requires { length view.now.owners ≤ MAX_IDS }
+    requires few { length view.now.owners ≤ MAX_IDS }
+    requires tints { tints.now ≡ tints_of view.now }
     ensures { OnOk result (text.new ≡ text.old ++ strip_text geometry.now view.now) }
 {
     let x = u64::from(geometry.ids.x);
@@ -168,7 +194,7 @@ pub(crate) fn push_strip(
     push_label(text, b"h", x, y, b"VLAN ids")?;
     push_label(text, b"d", x + 84, y, words.bytes())?;
     push_rect(text, b"strip", area_of(geometry.strip))?;
-    push_runs(text, geometry, view)
+    push_runs(text, geometry, view, tints)
 }
 
 /// How the machines of an experiment are held.
@@ -256,39 +282,58 @@ fn swatch(point: Point) -> Place
     }
 }
 
-/// An experiment in the list.
-#[tactic(auto, unfolding(crate::specs::Lists::entry_text))]
-fn push_entry(
+/// The colour of an experiment in the list.
+fn push_colour(
+    text: &mut Text,
+    view: &View,
+    tints: &[u8],
+    number: usize,
+    stand: Stand,
+    point: Point,
+) -> Result<(), Memory>
+    requires { tints.now ≡ tints_of view.now }
+    ensures { OnOk result (text.new ≡ text.old ++ coloured false (flag_of_exp view.now number) (held_of stand) (swatch point)) }
+{
+    let flag = flag_of_exp(view, tints, number);
+    push_coloured(text, false, flag, held_of(stand), swatch(point))
+}
+
+/// The name of an experiment in the list, and what it claims.
+#[tactic(auto, unfolding(crate::specs::Lists::entry_words))]
+fn push_words(
     alloc: Global,
     text: &mut Text,
     geometry: &Geometry,
-    view: &View,
-    number: usize,
+    point: Point,
     exp: &Exp,
 ) -> Result<(), Memory>
-    ensures { OnOk result (text.new ≡ text.old ++ entry_text geometry.now view.now number (point_at geometry.now.entries number) exp.now) }
+    ensures { OnOk result (text.new ≡ text.old ++ entry_words geometry.now point exp.now) }
 {
-    let point = point_at(geometry.entries.as_slice(), number);
     let x = u64::from(point.x);
     let y = u64::from(point.y) + 12;
     let words = claim_words(alloc, exp)?;
-    let flag = flag_of_exp(view, number);
-    push_coloured(text, false, flag, held_of(exp.stand), swatch(point))?;
     push_label(text, name_class(exp.stand), x + 44, y, exp.name.bytes())?;
     push_label(text, b"k", sum(point.x, geometry.second), y, words.bytes())
 }
 
+#[tactic(auto, unfolding(crate::specs::Lists::entry_text))]
 fn push_entry_at(
     alloc: Global,
     text: &mut Text,
     geometry: &Geometry,
     view: &View,
+    tints: &[u8],
     number: usize,
 ) -> Result<(), Memory>
+    requires { tints.now ≡ tints_of view.now }
     ensures { OnOk result (text.new ≡ text.old ++ entry_at geometry.now view.now number) }
 {
     match view.experiments.as_slice().get(number) {
-        Some(exp) => push_entry(alloc, text, geometry, view, number, exp),
+        Some(exp) => {
+            let point = point_at(geometry.entries.as_slice(), number);
+            push_colour(text, view, tints, number, exp.stand, point)?;
+            push_words(alloc, text, geometry, point, exp)
+        }
         None => Ok(()),
     }
 }
@@ -299,11 +344,13 @@ fn push_entries(
     text: &mut Text,
     geometry: &Geometry,
     view: &View,
+    tints: &[u8],
 ) -> Result<(), Memory>
+    requires { tints.now ≡ tints_of view.now }
     ensures { OnOk result (text.new ≡ text.old ++ flat_map (entry_at geometry.now view.now) (range_with_len 0 (length view.now.experiments))) }
 {
     for number in 0..view.experiments.len() {
-        push_entry_at(alloc, text, geometry, view, number)?;
+        push_entry_at(alloc, text, geometry, view, tints, number)?;
     }
     Ok(())
 }
@@ -322,10 +369,12 @@ pub(crate) fn push_list(
     text: &mut Text,
     geometry: &Geometry,
     view: &View,
+    tints: &[u8],
 ) -> Result<(), Memory>
+    requires { tints.now ≡ tints_of view.now }
     ensures { OnOk result (text.new ≡ text.old ++ list_text geometry.now view.now) }
 {
     let x = u64::from(geometry.list.x);
     push_label(text, b"h", x, u64::from(geometry.list.y), list_head())?;
-    push_entries(alloc, text, geometry, view)
+    push_entries(alloc, text, geometry, view, tints)
 }

@@ -3,8 +3,9 @@ ghost use Rattle.std.specs.Prelude.{◌≡◌, ◌++◌, ◌<◌, ◌==◌, nat_
 ghost use Rattle.std.specs.List.{list_any, range_with_len};
 ghost use Rattle.lab_view.specs.Views.{switch_name, exp_name};
 ghost use Rattle.lab_view.specs.Lines.{spaced};
+ghost use Rattle.lab_view.specs.Flags.{tints_of};
 ghost use Rattle.lab_picture.specs.Shapes.{fitted};
-ghost use Rattle.lab_picture.specs.Machines.{names_text, first_name, listed, letters_in, type_words, plug_at, holder_words, tip, free_body, held_words, held_body, body, first_of, is_one, corner, corner_of, held_class, class_of, machine_text, machine_at};
+ghost use Rattle.lab_picture.specs.Machines.{names_text, first_name, listed, letters_in, type_words, plug_at, holder_words, tip, free_body, held_words, body, first_of, is_one, corner, corner_of, held_class, class_of, machine_text, machine_at};
 
 use crate::bars::push_coloured;
 use crate::geometry::{Geometry, Place, place_at};
@@ -206,58 +207,47 @@ fn fitted(alloc: Global, name: &[u8], most: usize) -> Result<Text, Memory>
     Ok(text)
 }
 
-/// The experiment that holds a machine, and the virtual nodes there.
+/// The name of a machine, the experiment that holds it, and the virtual nodes there.
 #[tactic(auto, unfolding(crate::specs::Machines::held_words))]
 fn push_words(
     alloc: Global,
     text: &mut Text,
     view: &View,
     place: Place,
+    machine: &Machine,
     seat: &Seat,
 ) -> Result<(), Memory>
-    ensures { OnOk result (text.new ≡ text.old ++ held_words view.now place seat.now) }
+    ensures { OnOk result (text.new ≡ text.old ++ held_words view.now place machine.now seat.now) }
 {
     let x = u64::from(place.x) + 14;
     let y = u64::from(place.y);
     let name = fitted(alloc, exp_name(view, seat.exp), letters_in(place.wide))?;
     let guests = listed(alloc, seat.guests.as_slice(), letters_in(place.wide))?;
+    push_label(text, b"m", x, y + 14, machine.name.bytes())?;
     push_label(text, b"e", x, y + 26, name.bytes())?;
     push_label(text, b"v", x, y + 38, guests.bytes())
 }
 
-/// A machine that an experiment holds.
-#[tactic(auto, unfolding(crate::specs::Machines::held_body))]
-fn push_held(
-    alloc: Global,
-    text: &mut Text,
-    view: &View,
-    place: Place,
-    machine: &Machine,
-    seat: &Seat,
-) -> Result<(), Memory>
-    ensures { OnOk result (text.new ≡ text.old ++ held_body view.now place machine.now seat.now) }
-{
-    let flag = flag_of_exp(view, seat.exp);
-    push_coloured(text, true, flag, seat.held, place)?;
-    let x = u64::from(place.x) + 14;
-    let y = u64::from(place.y) + 14;
-    push_label(text, b"m", x, y, machine.name.bytes())?;
-    push_words(alloc, text, view, place, seat)
-}
-
-#[tactic(auto, unfolding(crate::specs::Machines::body))]
+/// A machine, in the colour of the experiment that holds it, by the tints of first machines.
+#[tactic(auto, unfolding(crate::specs::Machines::body, crate::specs::Machines::held_body))]
 fn push_body(
     alloc: Global,
     text: &mut Text,
     view: &View,
+    tints: &[u8],
     place: Place,
     machine: &Machine,
 ) -> Result<(), Memory>
+    requires { tints.now ≡ tints_of view.now }
     ensures { OnOk result (text.new ≡ text.old ++ body view.now place machine.now machine.now.seat) }
 {
     match &machine.seat {
         None => push_free(alloc, text, place, machine),
-        Some(seat) => push_held(alloc, text, view, place, machine, seat),
+        Some(seat) => {
+            let flag = flag_of_exp(view, tints, seat.exp);
+            push_coloured(text, true, flag, seat.held, place)?;
+            push_words(alloc, text, view, place, machine, seat)
+        }
     }
 }
 
@@ -318,19 +308,21 @@ fn class_of(seat: &Option<Seat>) -> &'static [u8]
     }
 }
 
-/// A machine, in the colour of the experiment that holds it.
+/// A machine, with the words that a pointer over it shows.
 fn push_machine(
     alloc: Global,
     text: &mut Text,
     view: &View,
+    tints: &[u8],
     place: Place,
     machine: &Machine,
 ) -> Result<(), Memory>
+    requires { tints.now ≡ tints_of view.now }
     ensures { OnOk result (text.new ≡ text.old ++ machine_text view.now place machine.now) }
 {
     text.push_bytes(class_of(&machine.seat))?;
     push_tip(text, view, machine)?;
-    push_body(alloc, text, view, place, machine)?;
+    push_body(alloc, text, view, tints, place, machine)?;
     push_corner_of(text, place, machine.plugs.as_slice())?;
     text.push_bytes(tag(Piece::GroupEnd))
 }
@@ -340,13 +332,15 @@ fn push_machine_at(
     text: &mut Text,
     geometry: &Geometry,
     view: &View,
+    tints: &[u8],
     number: usize,
 ) -> Result<(), Memory>
+    requires { tints.now ≡ tints_of view.now }
     ensures { OnOk result (text.new ≡ text.old ++ machine_at geometry.now view.now number) }
 {
     let place = place_at(geometry.cells.as_slice(), number);
     match view.machines.as_slice().get(number) {
-        Some(machine) => push_machine(alloc, text, view, place, machine),
+        Some(machine) => push_machine(alloc, text, view, tints, place, machine),
         None => Ok(()),
     }
 }
@@ -358,11 +352,13 @@ pub(crate) fn push_machines(
     text: &mut Text,
     geometry: &Geometry,
     view: &View,
+    tints: &[u8],
 ) -> Result<(), Memory>
+    requires { tints.now ≡ tints_of view.now }
     ensures { OnOk result (text.new ≡ text.old ++ flat_map (machine_at geometry.now view.now) (range_with_len 0 (length view.now.machines))) }
 {
     for number in 0..view.machines.len() {
-        push_machine_at(alloc, text, geometry, view, number)?;
+        push_machine_at(alloc, text, geometry, view, tints, number)?;
     }
     Ok(())
 }

@@ -1,5 +1,6 @@
 // The picture of a lab.
 ghost use Rattle.std.specs.Prelude.{◌≡◌, ◌++◌, ◌≤◌, length, IfOk, OnOk};
+ghost use Rattle.lab_view.specs.Flags.{tints_of};
 ghost use Rattle.lab_picture.specs.Pictures.{is_in, is_out, moves, count_in, so_many, title_words, parts_words, stands_words, title, rule, size_text, sheet, scaled, head_text, lone_text, lab_text, picture};
 
 use crate::frame::{KEY, STYLE};
@@ -12,7 +13,7 @@ use crate::switches::push_switches;
 use crate::tags::{Piece, tag};
 use crate::trunks::{push_labels, push_trunks};
 use lab_base::{Memory, Text};
-use lab_view::{MAX_IDS, Stand, View, free_machines};
+use lab_view::{MAX_IDS, Stand, View, free_machines, tints_of};
 use std::alloc::Global;
 
 fn is_in(stand: Stand) -> bool
@@ -213,12 +214,19 @@ fn push_lone(text: &mut Text, lone: &Option<Point>) -> Result<(), Memory>
 
 /// All that stands in the lab.
 #[tactic(auto, unfolding(crate::specs::Pictures::lab_text))]
-fn push_lab(alloc: Global, text: &mut Text, geometry: &Geometry, view: &View) -> Result<(), Memory>
+fn push_lab(
+    alloc: Global,
+    text: &mut Text,
+    geometry: &Geometry,
+    view: &View,
+    tints: &[u8],
+) -> Result<(), Memory>
+    requires { tints.now ≡ tints_of view.now }
     ensures { OnOk result (text.new ≡ text.old ++ lab_text geometry.now view.now) }
 {
     push_trunks(text, geometry, view)?;
     push_switches(alloc, text, geometry, view)?;
-    push_machines(alloc, text, geometry, view)?;
+    push_machines(alloc, text, geometry, view, tints)?;
     push_labels(alloc, text, geometry, view)?;
     push_lone(text, &geometry.lone)
 }
@@ -235,12 +243,14 @@ fn draw_with(
     requires { length view.now.owners ≤ MAX_IDS }
     ensures { IfOk result (λ text. text ≡ picture style.now key.now geometry.now view.now) }
 {
+    let tints = tints_of(alloc, view)?;
+    let tints = tints.as_slice();
     let mut text = Text::new(alloc);
     push_head(alloc, &mut text, style, key, geometry, view)?;
-    push_lab(alloc, &mut text, geometry, view)?;
+    push_lab(alloc, &mut text, geometry, view, tints)?;
     push_rule(&mut text, geometry, geometry.foot)?;
-    push_strip(alloc, &mut text, geometry, view)?;
-    push_list(alloc, &mut text, geometry, view)?;
+    push_strip(alloc, &mut text, geometry, view, tints)?;
+    push_list(alloc, &mut text, geometry, view, tints)?;
     text.push_bytes(tag(Piece::PictureEnd))?;
     Ok(text)
 }

@@ -1,16 +1,17 @@
 -- The first machines of experiments, counted.
-use Rattle.std.proofs.Common.{◌≡◌, ◌⊎◌, inl, inr, ◌+◌, ◌-◌, ◌<◌, ◌≤◌, ℕ, zero, suc, Bool, true, false, cond, min, nat_le, nat_lt, List, [], ◌∷◌, length, get_or, slice_get, Option, Some, None, ap, sym, ◌∙◌, refl, subst, arith}
+use Rattle.std.proofs.Common.{◌≡◌, inl, inr, ◌+◌, ◌-◌, ◌<◌, ◌≤◌, ℕ, zero, suc, Bool, true, false, cond, min, nat_lt, List, [], ◌∷◌, length, get_or, slice_get, Option, Some, None, ap, sym, ◌∙◌, refl, subst, arith}
 use Rattle.std.specs.List.{position}
 use Rattle.std.proofs.lemmas.Bool.{cases_Bool, eqb-true, eq-eqb, leb-true, ltb-true, ltb-false}
 use Rattle.std.proofs.lemmas.Option.{slice_get-get_or}
+use Rattle.std.proofs.lemmas.List.FromFn.{length-map-range_with_len, get_or-map-range_with_len}
 use Rattle.std.proofs.lemmas.List.Quantifiers.{position-Some}
 use Rattle.lab_view.specs.declared.view.View.{View}
 use Rattle.lab_view.specs.declared.view.Machine.{Machine}
 use Rattle.lab_view.specs.declared.view.Seat.{Seat}
 use Rattle.lab_view.specs.declared.flags.Flag.{Flag}
 use Rattle.lab_view.specs.Views.{is_number, is_seat_of, is_held_by}
-use Rattle.lab_view.specs.Flags.{tint_of, bar_of, form_of, flag_of, first_in, seat_in, is_first, firsts_before, are_few, tint_in, flag_in, flag_of_exp}
-use Rattle.lab_view.proofs.Holders.{one_holder, within, flag_at, same_machine, many_flags}
+use Rattle.lab_view.specs.Flags.{tint_of, bar_of, form_of, first_in, seat_in, is_first, firsts_before, are_few, tint_in, tints_of, flag_in, flag_of_exp}
+use Rattle.lab_view.proofs.Holders.{one_holder, within, same_machine, many_flags}
 
 -- one machine more
 pub firsts_more : (v : View) (n : ℕ) → firsts_before v (n + 1) ≡ firsts_before v n + cond (is_first v n) 1 0
@@ -108,3 +109,10 @@ flags_apart v e f flag small p q = elim (cases_Bool (are_few v)) [
         let same : m ≡ n = same_machine m n flag (omega (arith, small, within v.machines e m at_e)) (omega (arith, small, within v.machines f n at_f))
         (sym (many_flags v (Some m) many) ∙ p) (sym (many_flags v (Some n) many) ∙ q) in
         one_holder v.machines e f m at_e (subst (λ (i : ℕ). position (is_held_by f) v.machines ≡ Some i) (sym same) at_f)
+
+-- an experiment's tint stands at its first machine
+pub tint_within : (v : View) (e n : ℕ) → position (is_held_by e) v.machines ≡ Some n → n < length (tints_of v)
+tint_within v e n at = omega (arith, within v.machines e n at, length-map-range_with_len (tint_in v) 0 (length v.machines))
+
+pub tint_at : (v : View) (e n d : ℕ) → position (is_held_by e) v.machines ≡ Some n → get_or (tints_of v) n d ≡ tint_in v n
+tint_at v e n d at = get_or-map-range_with_len (tint_in v) 0 (length v.machines) n n d (within v.machines e n at) (omega arith)

@@ -1,6 +1,6 @@
 -- A number that is more than half of a list.
 use Rattle.std.proofs.Common.{◌≡◌, inl, inr, ℕ, ◌+◌, ◌<◌, ◌≤◌, ◌==◌, Bool, true, false, cond, List, [], ◌∷◌, length, get_or, Some, refl, sym, ap, ◌∙◌, arith}
-use Rattle.std.specs.Prelude.{◌/◌, IsTrue, nat_le, nat_lt, find, slice_get}
+use Rattle.std.specs.Prelude.{◌/◌, nat_le, nat_lt, find, slice_get}
 use Rattle.std.proofs.lemmas.Bool.{cases_eq, eq-eqb, le-leb, ltb-true, ne_eqb}
 use Rattle.std.proofs.lemmas.List.Sums.{sum_by-cons}
 use Rattle.lab_base.proofs.Members.{all_from}
@@ -42,9 +42,9 @@ leads_most n xs more = all_from (λ m. nat_le (times m xs) (times n xs)) xs (λ 
 pub leads_first : (x : ℕ) (xs : List ℕ) → length (x ∷ xs) < times x (x ∷ xs) + times x (x ∷ xs) → find (is_most (x ∷ xs)) (x ∷ xs) ≡ Some x
 leads_first x xs more = ap (λ (b : Bool). cond b (Some x) (find (is_most (x ∷ xs)) xs)) (leads_most x (x ∷ xs) more)
 
-pub leads_front : (xs : List ℕ) (d count : ℕ) → count ≡ times (get_or xs 0 d) xs → IsTrue (nat_lt (length xs / 2) count) → find (is_most xs) xs ≡ slice_get xs 0
-leads_front [] d count is more = refl
-leads_front (x ∷ xs) d count is more = leads_first x xs (half (length (x ∷ xs)) count (times x (x ∷ xs)) is (ltb-true _ _ more))
+pub leads_front : (xs : List ℕ) → nat_lt (length xs / 2) (times (get_or xs 0 0) xs) ≡ true → find (is_most xs) xs ≡ slice_get xs 0
+leads_front [] more = refl
+leads_front (x ∷ xs) more = leads_first x xs (half (length (x ∷ xs)) (times x (x ∷ xs)) (ltb-true _ _ more))
   where
-    half : (n c t : ℕ) → c ≡ t → n / 2 < c → n < t + t
-    half n c t same lt = omega (arith, same, lt)
+    half : (n t : ℕ) → n / 2 < t → n < t + t
+    half n t lt = omega (arith, lt)

@@ -1,5 +1,6 @@
 -- The flags of experiments.
-use Rattle.std.specs.Prelude.{ℕ, zero, suc, ◌+◌, ◌*◌, ◌/◌, ◌%◌, min, Bool, false, nat_le, length, position, slice_get, if◌then◌else◌, Option, Some, None}
+use Rattle.std.specs.Prelude.{ℕ, zero, suc, ◌+◌, ◌*◌, ◌/◌, ◌%◌, min, Bool, nat_le, List, length, map, position, slice_get, if◌then◌else◌, Option, Some, None}
+use Rattle.std.specs.List.{range_with_len}
 use Rattle.lab_view.specs.declared.view.View.{View}
 use Rattle.lab_view.specs.declared.view.Machine.{Machine}
 use Rattle.lab_view.specs.declared.view.Seat.{Seat}
@@ -43,6 +44,9 @@ are_few v = nat_le (min (firsts_before v (length v.machines)) (TINTS + 1)) TINTS
 -- THE TINT by an experiment's first machine: while they are few its number among those that hold machines
 abbrev pub tint_in : View → ℕ → ℕ
 tint_in v n = if are_few v then min (firsts_before v n) (TINTS + 1) else tint_of n
+
+abbrev pub tints_of : View → List ℕ
+tints_of v = map (tint_in v) (range_with_len 0 (length v.machines))
 
 abbrev pub flag_in : View → Option ℕ → Option Flag
 flag_in v None = None

@@ -1,5 +1,5 @@
 // The free part of a lab.
-ghost use Rattle.std.specs.Prelude.{◌≡◌, IsTrue, find, slice_get};
+ghost use Rattle.std.specs.Prelude.{◌≡◌, ◌/◌, nat_lt, length, get_or, find};
 ghost use Rattle.lab_view.specs.Views.{times, is_most, home_of, is_under, is_lone, is_unheld, is_free_under, is_held_by, free_machines, count_under, free_under, free_ids};
 
 use crate::view::{Machine, View};
@@ -20,7 +20,7 @@ fn is_most(numbers: &[usize], number: usize) -> bool
 
 /// Whether the first number is more than half of a list.
 fn leads(numbers: &[usize]) -> bool
-    ensures { IsTrue result → find (is_most numbers.now) numbers.now ≡ slice_get numbers.now 0 }
+    ensures { result ≡ nat_lt (length numbers.now / 2) (times (get_or numbers.now 0 0) numbers.now) }
 {
     match numbers {
         [first, ..] => times(*first, numbers) > numbers.len() / 2,
@@ -30,6 +30,7 @@ fn leads(numbers: &[usize]) -> bool
 
 /// The first number that no other stands more often than. Where it leads, no other is counted: mostly all interfaces of a machine
 /// are on one switch.
+#[tactic(auto, using(crate::proofs::Leading::leads_front))]
 fn first_most(numbers: &[usize]) -> Option<usize>
     ensures { result ≡ find (is_most numbers.now) numbers.now }
 {

@@ -9,7 +9,7 @@ mod runs;
 mod view;
 
 pub use counts::{count_under, free_ids, free_machines, free_under, home_of};
-pub use flags::{Flag, MAX_FLAGS, TINTS, flag_of, flag_of_exp};
+pub use flags::{Flag, MAX_FLAGS, TINTS, flag_of, flag_of_exp, tints_of};
 pub use laws::{experiments_differ, flags_differ, flags_stay, tints_differ};
 pub use lines::lines_of;
 pub use runs::{begins_run, owner_at, run_length};
