@@ -1,6 +1,1 @@
-mod Best
-mod Digits
-mod Layouts
 mod Pairs
-mod Ranges
-mod Sums

@@ -1,14 +1,1 @@
-pub mod Cells
-pub mod Columns
-pub mod Drawn
-pub mod Heights
 pub mod Laid
-pub mod Layouts
-pub mod Lists
-pub mod Measures
-pub mod Reaches
-pub mod Rows
-pub mod Tops
-pub mod Trees
-pub mod Trunks
-pub mod Ways

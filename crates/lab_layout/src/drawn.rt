@@ -1,18 +1,11 @@
 // Where everything stands in the picture of a lab.
-ghost use Rattle.std.specs.Prelude.{◌≡◌, ◌≤◌, ◌+◌, ◌-◌, ◌/◌, nat_lt, length, map, replicate, is_some, IfOk, IfSome, if◌then◌else◌};
+ghost use Rattle.std.specs.Prelude.{◌≡◌, ◌≤◌, ◌+◌, length, is_some, IfOk};
 ghost use Rattle.lab_view.specs.Lines.{has_lone};
 ghost use Rattle.lab_layout.specs.Laid.{HasPlaces, IsLaid, AreApart};
-ghost use Rattle.lab_layout.specs.Layouts.{off_of, IsBest};
-ghost use Rattle.lab_layout.specs.Measures.{pixels, small, IsEach};
-ghost use Rattle.lab_layout.specs.Heights.{head_scale, head_high};
-ghost use Rattle.lab_layout.specs.Lists.{column_wide, list_rows, mark_of, entry_at};
-ghost use Rattle.lab_layout.specs.Drawn.{across, lists_top, point, strip_below, heading, reach_of, IsPlaced, IsDrawn};
-ghost use Rattle.lab_layout.specs.Trunks.{echo_of, trunks_of};
-ghost use Rattle.lab_layout.specs.Cells.{no_place, card_of, cell_of, with_band, cells_of, lone_at};
 
 use crate::apart::set_apart;
 use crate::columns::MARGIN;
-use crate::layout::{CELL_HIGH, GAP, Layout, Plan, head_high, head_scale, layout_of};
+use crate::layout::{CELL_HIGH, GAP, Layout, Plan, fitting, head_high, head_scale, layout_of};
 use crate::limits::MAX_CELLS;
 use crate::lists::{entries_of, lists_high, marks_of, second};
 use crate::machines::cell_width;
@@ -28,44 +21,49 @@ use lab_view::View;
 use std::alloc::Global;
 
 /// How far a picture is from a sheet of paper on its side, whose edges are as 7 and 5, in thousandths.
-#[tactic(auto, unfolding(crate::specs::Layouts::off))]
-fn off(layout: &Layout, view: &View) -> Px
-    ensures { result.0 ≡ off_of view.now layout.now }
-{
+fn off(layout: &Layout, view: &View) -> Px {
     let wide = layout.wide * 5;
     let high = (layout.high + lists_high(view, layout.wide)) * 7;
     wide.apart(high) * 1_000 / wide.max(high).0
 }
 
-/// The layout of two whose picture is nearer to that sheet, the first one where both are as near.
-fn better(view: &View, one: Layout, other: Layout) -> Layout
-    ensures { result ≡ (if nat_lt (off_of view.now other) (off_of view.now one) then other else one) }
-{
-    if off(&other, view) < off(&one, view) {
-        other
-    } else {
-        one
+/// Whether at least half of the switches with machines have so many, or a fifth less.
+fn is_usual(plan: Plan<'_>, most: usize) -> bool {
+    let mut all = 0_usize;
+    let mut full = 0_usize;
+    for switch in 0..plan.view.switches.len() {
+        let count = plan.rows.under(switch).len();
+        if count > 0 {
+            all = all.saturating_add(1);
+        }
+        if count.saturating_mul(5) >= most.saturating_mul(4) {
+            full = full.saturating_add(2);
+        }
     }
+    full >= all
 }
 
-/// The layout whose picture is nearest to a sheet of paper on its side.
+/// The layout whose picture is nearest to a sheet of paper on its side. Rows are at least as long as the narrowest picture has room for, and
+/// no longer than is usual: a switch with more machines has further rows.
 fn best_layout(alloc: Global, plan: Plan<'_>) -> Result<Layout, Memory>
-    ensures spots { IfOk result (λ layout. length layout.spots.items ≡ length plan.entry.view.now.switches) }
-    ensures best { IfOk result (IsBest plan.entry.view.now plan.entry.rows.now plan.entry.forest.now 33) }
+    ensures { IfOk result (λ layout. length layout.spots.items ≡ length plan.entry.view.now.switches) }
 {
     let cell = cell_width(plan.view);
-    let mut best = layout_of(alloc, plan, cell, 4)?;
+    let least = fitting(alloc, plan, cell)?;
+    let mut best = layout_of(alloc, plan, cell, least)?;
     for most in 5..33 {
-        let other = layout_of(alloc, plan, cell, most)?;
-        best = better(plan.view, best, other);
+        if most > least && is_usual(plan, most) {
+            let other = layout_of(alloc, plan, cell, most)?;
+            if off(&other, plan.view) < off(&best, plan.view) {
+                best = other;
+            }
+        }
     }
     Ok(best)
 }
 
 /// The row of the machine with so many before it; the first one where rows have none.
-fn row_of(number: usize, columns: usize) -> usize
-    ensures { result ≡ number / columns }
-{
+fn row_of(number: usize, columns: usize) -> usize {
     match number.checked_div(columns) {
         Some(row) => row,
         None => 0,
@@ -73,10 +71,7 @@ fn row_of(number: usize, columns: usize) -> usize
 }
 
 /// Where the machine with so many before it stands in a band with rows of so many.
-#[tactic(auto, using(crate::proofs::Sums::within_row), unfolding(crate::specs::Cells::cell_of, crate::specs::Measures::pixels))]
-fn cell_of(band: Place, columns: usize, cell: Px, number: usize) -> lab_picture::Place
-    ensures { result ≡ cell_of band columns cell.0 number }
-{
+fn cell_of(band: Place, columns: usize, cell: Px, number: usize) -> lab_picture::Place {
     let row = row_of(number, columns);
     let column = number.saturating_sub(row.saturating_mul(columns));
     small(Place {
@@ -94,9 +89,7 @@ fn note_cells(
     band: Place,
     columns: usize,
     cell: Px,
-)
-    ensures { cells.new ≡ with_band band columns cell.0 cells.old numbers.now }
-{
+) {
     for (at, number) in numbers.iter().enumerate() {
         if *number < cells.len() {
             cells[*number] = cell_of(band, columns, cell, at);
@@ -112,7 +105,7 @@ const NOWHERE: lab_picture::Place = lab_picture::Place {
 };
 
 fn bare_cells(alloc: Global, count: usize) -> Result<Vec<lab_picture::Place>, Memory>
-    ensures { IfOk result (λ cells. cells.items ≡ replicate count no_place) }
+    ensures { IfOk result (λ cells. length cells.items ≡ count) }
 {
     let mut cells = Vec::new(alloc);
     for _number in 0..count {
@@ -127,8 +120,7 @@ fn cells_of(
     plan: Plan<'_>,
     layout: &Layout,
 ) -> Result<Items<lab_picture::Place>, Memory>
-    ensures len { IfOk result (λ cells. length cells ≡ length plan.entry.view.now.machines) }
-    ensures cells { IfOk result (λ cells. cells ≡ cells_of plan.entry.rows.now layout.now (length plan.entry.view.now.machines)) }
+    ensures { IfOk result (λ cells. length cells ≡ length plan.entry.view.now.machines) }
 {
     let mut cells = bare_cells(alloc, plan.view.machines.len())?;
     for (switch, spot) in layout.spots.iter().enumerate() {
@@ -158,8 +150,6 @@ fn cells_apart(
 ) -> Result<Items<lab_picture::Place>, Memory>
     ensures len { IfOk result (λ cells. length cells ≡ length plan.entry.view.now.machines) }
     ensures apart { IfOk result (λ cells. length plan.entry.view.now.machines ≤ MAX_CELLS → AreApart cells) }
-    ensures kept { IfOk result (λ cells. AreApart (cells_of plan.entry.rows.now layout.now (length plan.entry.view.now.machines))
-        → cells ≡ cells_of plan.entry.rows.now layout.now (length plan.entry.view.now.machines)) }
 {
     let cells = cells_of(alloc, plan, layout)?;
     let apart = set_apart(alloc, cells)?;
@@ -167,8 +157,7 @@ fn cells_apart(
 }
 
 fn cards_of(alloc: Global, layout: &Layout) -> Result<Items<Card>, Memory>
-    ensures len { IfOk result (λ cards. length cards ≡ length layout.now.spots.items) }
-    ensures cards { IfOk result (λ cards. cards ≡ map (λ p. card_of p.card) layout.now.spots.items) }
+    ensures { IfOk result (λ cards. length cards ≡ length layout.now.spots.items) }
 {
     let mut cards = Items::new(alloc);
     for spot in layout.spots.iter() {
@@ -178,8 +167,7 @@ fn cards_of(alloc: Global, layout: &Layout) -> Result<Items<Card>, Memory>
 }
 
 fn echoes_of(alloc: Global, layout: &Layout) -> Result<Items<Option<Echo>>, Memory>
-    ensures len { IfOk result (λ echoes. length echoes ≡ length layout.now.spots.items) }
-    ensures echoes { IfOk result (λ echoes. echoes ≡ map (echo_of layout.now.spots.items layout.now.last.0) layout.now.spots.items) }
+    ensures { IfOk result (λ echoes. length echoes ≡ length layout.now.spots.items) }
 {
     let mut echoes = Items::new(alloc);
     for spot in layout.spots.iter() {
@@ -190,8 +178,7 @@ fn echoes_of(alloc: Global, layout: &Layout) -> Result<Items<Option<Echo>>, Memo
 
 /// Where the heading of machines without an interface stands.
 fn lone_of(plan: Plan<'_>, layout: &Layout) -> Option<Point>
-    ensures some { is_some result ≡ has_lone plan.entry.view.now }
-    ensures at { IfSome result (λ p. p ≡ lone_at layout.now) }
+    ensures { is_some result ≡ has_lone plan.entry.view.now }
 {
     if plan.rows.lone.is_empty() {
         return None;
@@ -203,9 +190,7 @@ fn lone_of(plan: Plan<'_>, layout: &Layout) -> Option<Point>
 }
 
 /// A point at measures from the left and from above.
-fn point(x: Px, y: Px) -> Point
-    ensures { result ≡ point x.0 y.0 }
-{
+fn point(x: Px, y: Px) -> Point {
     Point {
         x: x.small(),
         y: y.small(),
@@ -213,24 +198,17 @@ fn point(x: Px, y: Px) -> Point
 }
 
 /// How wide the strip of VLAN ids is.
-#[tactic(auto, unfolding(crate::specs::Measures::pixels))]
-fn across_of(layout: &Layout) -> Px
-    ensures { result.0 ≡ across layout.now }
-{
+fn across_of(layout: &Layout) -> Px {
     layout.wide - MARGIN * 2
 }
 
 /// Where the lists below a layout begin.
-fn lists_top(layout: &Layout) -> Px
-    ensures { result.0 ≡ lists_top layout.now }
-{
+fn lists_top(layout: &Layout) -> Px {
     layout.high + 10
 }
 
 /// The strip of VLAN ids below a layout, as wide as that.
-fn strip_below(layout: &Layout, across: Px) -> lab_picture::Place
-    ensures { result ≡ strip_below layout.now across.0 }
-{
+fn strip_below(layout: &Layout, across: Px) -> lab_picture::Place {
     small(Place {
         x: MARGIN,
         y: layout.high + 40,
@@ -240,9 +218,7 @@ fn strip_below(layout: &Layout, across: Px) -> lab_picture::Place
 }
 
 /// How far a layout reaches with the lists below it.
-fn reach_of(layout: &Layout, view: &View) -> Reach
-    ensures { result ≡ reach_of view.now layout.now }
-{
+fn reach_of(layout: &Layout, view: &View) -> Reach {
     Reach {
         wide: layout.wide.0,
         high: (layout.high + lists_high(view, layout.wide)).0,
@@ -250,45 +226,51 @@ fn reach_of(layout: &Layout, view: &View) -> Reach
 }
 
 /// How large the title and the key are.
-fn scale_of(layout: &Layout) -> u32
-    ensures { result ≡ small (head_scale layout.now.wide.0) }
-{
+fn scale_of(layout: &Layout) -> u32 {
     Px(head_scale(layout.wide)).small()
 }
 
 /// Where the title and the key end.
-fn head_of(layout: &Layout) -> u32
-    ensures { result ≡ small (head_high layout.now.wide.0 - 12) }
-{
+fn head_of(layout: &Layout) -> u32 {
     (head_high(layout.wide) - 12).small()
 }
 
 /// Where all that stands above the lists ends.
-fn foot_of(layout: &Layout) -> u32
-    ensures { result ≡ small (pixels (layout.now.high.0 + 2)) }
-{
+fn foot_of(layout: &Layout) -> u32 {
     (layout.high + 2).small()
 }
 
 /// Where the heading of a list stands, so far below the begin of the lists.
-fn heading(layout: &Layout, below: u64) -> Point
-    ensures { result ≡ heading layout.now below }
-{
+fn heading(layout: &Layout, below: u64) -> Point {
     point(MARGIN, lists_top(layout) + below)
+}
+
+/// How many VLAN ids a strip of that width shows: as many as have two pixels each, and at least those up to the last one that is claimed,
+/// and an eighth more.
+fn shown_ids(view: &View, across: Px) -> usize {
+    let mut last = 0_usize;
+    for (place, owner) in view.owners.as_slice().iter().enumerate() {
+        if owner.is_some() {
+            last = place;
+        }
+    }
+    let claimed = last.saturating_add(last / 8).saturating_add(2);
+    let wide = (across / 2).0 as usize;
+    claimed.max(wide).min(view.owners.len())
 }
 
 /// By VLAN id where it begins on the strip below a layout.
 fn marks_below(alloc: Global, view: &View, layout: &Layout) -> Result<Items<u32>, Memory>
-    ensures len { IfOk result (λ marks. length marks ≡ length view.now.owners + 1) }
-    ensures marks { IfOk result (IsEach (λ number. mark_of number (length view.now.owners) (across layout.now))) }
+    ensures { IfOk result (λ marks. length marks ≡ length view.now.owners + 1) }
 {
-    marks_of(alloc, view.owners.len(), across_of(layout))
+    let across = across_of(layout);
+    let shown = shown_ids(view, across);
+    marks_of(alloc, view.owners.len(), shown, across)
 }
 
 /// By experiment its entry below a layout.
 fn entries_below(alloc: Global, view: &View, layout: &Layout) -> Result<Items<Point>, Memory>
-    ensures len { IfOk result (λ entries. length entries ≡ length view.now.experiments) }
-    ensures entries { IfOk result (IsEach (λ number. entry_at number (list_rows view.now layout.now.wide.0) (column_wide view.now) (lists_top layout.now))) }
+    ensures { IfOk result (λ entries. length entries ≡ length view.now.experiments) }
 {
     entries_of(alloc, view, layout.wide, lists_top(layout))
 }
@@ -298,7 +280,6 @@ fn placed(alloc: Global, plan: Plan<'_>, layout: &Layout) -> Result<Geometry, Me
     requires { length layout.now.spots.items ≡ length plan.view.now.switches }
     ensures places { IfOk result (HasPlaces plan.entry.view.now) }
     ensures apart { IfOk result (λ g. length plan.entry.view.now.machines ≤ MAX_CELLS → AreApart g.cells) }
-    ensures placed { IfOk result (IsPlaced plan.entry.view.now plan.entry.rows.now plan.entry.forest.now layout.now) }
 {
     let view = plan.view;
     let trunks = trunks_of(alloc, plan, layout)?;
@@ -328,8 +309,7 @@ fn placed(alloc: Global, plan: Plan<'_>, layout: &Layout) -> Result<Geometry, Me
 /// The picture of a layout.
 fn drawn(alloc: Global, plan: Plan<'_>, layout: &Layout) -> Result<Geometry, Memory>
     requires { length layout.now.spots.items ≡ length plan.view.now.switches }
-    ensures laid { IfOk result (IsLaid plan.entry.view.now) }
-    ensures drawn { IfOk result (IsDrawn plan.entry.view.now plan.entry.rows.now plan.entry.forest.now layout.now) }
+    ensures { IfOk result (IsLaid plan.entry.view.now) }
 {
     let mut geometry = placed(alloc, plan, layout)?;
     let reach = reach_of(layout, plan.view).over_picture(
@@ -345,9 +325,7 @@ fn drawn(alloc: Global, plan: Plan<'_>, layout: &Layout) -> Result<Geometry, Mem
 }
 
 /// Where everything stands in the picture of a lab.
-pub fn geometry_of(alloc: Global, view: &View) -> Result<Geometry, Memory>
-    ensures { IfOk result (IsLaid view.now) }
-{
+pub fn geometry_of(alloc: Global, view: &View) -> Result<Geometry, Memory> {
     let forest = forest_of(alloc, view)?;
     let rows = Rows::new(alloc, view)?;
     let plan = Plan {

@@ -1,13 +1,6 @@
 // Where everything stands.
-ghost use Rattle.std.specs.Prelude.{◌≡◌, ◌<◌, ◌++◌, nat_lt, length, position, slice_get, slice_set, IfOk, OnOk, Some};
-ghost use Rattle.lab_layout.specs.declared.layout.Spot.{Spot as AnySpot};
+ghost use Rattle.std.specs.Prelude.{◌≡◌, ◌<◌, nat_lt, length, IfOk, IfSome, OnOk};
 ghost use Rattle.lab_view.specs.Lines.{has_lone};
-ghost use Rattle.lab_layout.specs.Heights.{head_scale, head_high, columns_for, rows_high};
-ghost use Rattle.lab_layout.specs.Heights.{card_in, block_in, slot_high, heights, own_high, block_of, with_block, measured};
-ghost use Rattle.lab_layout.specs.Columns.{end_of};
-ghost use Rattle.lab_layout.specs.Layouts.{slots_in, slots_of, row_wide, card_with, band_with, spot_with, spots_with, widest, wide_with};
-ghost use Rattle.lab_layout.specs.Layouts.{lone_end, IsBegun, IsLayout};
-ghost use Rattle.lab_layout.specs.Tops.{is_own, first_top, own_top, put_spot, with_put, with_top, hung, rooted, all_put, IsAllPut};
 
 use crate::columns::{BESIDE, Columns, MARGIN, PORT, bare, columns_of_lab, has_both};
 use crate::limits::LEAST_HIGH;
@@ -35,17 +28,11 @@ const BAND: Px = Px(48);
 const CARD: Px = Px(42);
 
 /// How large the title and the key are in a picture of that width, in tenths of their least size: they grow half as fast as it.
-#[tactic(auto, unfolding(crate::specs::Measures::pixels))]
-pub(crate) fn head_scale(wide: Px) -> u64
-    ensures { result ≡ head_scale wide.0 }
-{
+pub(crate) fn head_scale(wide: Px) -> u64 {
     (Px(5) + wide * 5 / LEAST.0).max(Px(10)).min(Px(24)).0
 }
 
-#[tactic(auto, unfolding(crate::specs::Measures::pixels))]
-pub(crate) fn head_high(wide: Px) -> Px
-    ensures { result.0 ≡ head_high wide.0 }
-{
+pub(crate) fn head_high(wide: Px) -> Px {
     HEAD * head_scale(wide) / 10
 }
 
@@ -93,9 +80,7 @@ pub(crate) struct Plan<'a> {
 }
 
 /// Children as slots, in order.
-fn push_children(slots: &mut Items<Slot>, children: &[usize]) -> Result<(), Memory>
-    ensures { OnOk result (slots.new ≡ slots.old ++ slots_in children.now) }
-{
+fn push_children(slots: &mut Items<Slot>, children: &[usize]) -> Result<(), Memory> {
     for child in children {
         slots.push(Slot::Child(*child))?;
     }
@@ -103,9 +88,7 @@ fn push_children(slots: &mut Items<Slot>, children: &[usize]) -> Result<(), Memo
 }
 
 /// Children in order, and the switch's own machines in their midst.
-fn slots_of(alloc: Global, plan: Plan<'_>, switch: usize) -> Result<Items<Slot>, Memory>
-    ensures { IfOk result (λ slots. slots ≡ slots_of plan.entry.rows.now plan.entry.forest.now switch) }
-{
+fn slots_of(alloc: Global, plan: Plan<'_>, switch: usize) -> Result<Items<Slot>, Memory> {
     let children = plan.forest.children(switch);
     let mut slots = Items::new(alloc);
     if has_both(plan, switch) {
@@ -120,9 +103,7 @@ fn slots_of(alloc: Global, plan: Plan<'_>, switch: usize) -> Result<Items<Slot>,
 }
 
 /// How high what stands in a switch's own row is: its card, and its machines where no slots are.
-fn own_high(spot: &Spot) -> Px
-    ensures { result.0 ≡ own_high spot.now spot.now.slots }
-{
+fn own_high(spot: &Spot) -> Px {
     if spot.slots.is_empty() {
         spot.band.high.max(BAND).max(spot.card.high)
     } else {
@@ -131,17 +112,12 @@ fn own_high(spot: &Spot) -> Px
 }
 
 /// How wide so many machines beside one another are.
-fn row_wide(cell: Px, columns: usize) -> Px
-    ensures { result.0 ≡ row_wide cell.0 columns }
-{
+fn row_wide(cell: Px, columns: usize) -> Px {
     (cell + GAP) * columns as u64
 }
 
 /// A card with so many slots, whose top isn't known yet.
-#[tactic(auto, unfolding(crate::specs::Measures::pixels))]
-fn card_with(x: Px, wide: Px, slots: usize) -> Place
-    ensures { result ≡ card_with x wide slots }
-{
+fn card_with(x: Px, wide: Px, slots: usize) -> Place {
     Place {
         x,
         y: Px(0),
@@ -151,9 +127,7 @@ fn card_with(x: Px, wide: Px, slots: usize) -> Place
 }
 
 /// A band of so many machines behind the last column, whose top isn't known yet.
-fn band_with(end: Px, cell: Px, count: usize, columns: usize) -> Place
-    ensures { result ≡ band_with end.0 cell.0 count columns }
-{
+fn band_with(end: Px, cell: Px, count: usize, columns: usize) -> Place {
     Place {
         x: end + BESIDE,
         y: Px(0),
@@ -170,10 +144,7 @@ fn spot_of(
     switch: usize,
     cell: Px,
     most: usize,
-) -> Result<Spot, Memory>
-    ensures { IfOk result (λ p. p ≡ spot_with columns.now.starts.items columns.now.cards.items (end_of columns.now)
-        plan.entry.rows.now plan.entry.forest.now cell.0 most switch) }
-{
+) -> Result<Spot, Memory> {
     let column = plan.forest.column(switch);
     let count = plan.rows.under(switch).len();
     let own = columns_for(count, most);
@@ -197,8 +168,7 @@ fn spots_of(
     cell: Px,
     most: usize,
 ) -> Result<Vec<Spot>, Memory>
-    ensures { IfOk result (λ list. list.items ≡ spots_with columns.now.starts.items columns.now.cards.items (end_of columns.now)
-        plan.entry.rows.now plan.entry.forest.now cell.0 most (length plan.entry.view.now.switches)) }
+    ensures { IfOk result (λ spots. length spots.items ≡ length plan.entry.view.now.switches) }
 {
     let mut spots = Vec::new(alloc);
     for switch in 0..plan.view.switches.len() {
@@ -209,9 +179,7 @@ fn spots_of(
 }
 
 /// How many machines the longest row has, at least so many.
-fn widest(least: usize, spots: &[Spot]) -> usize
-    ensures { result ≡ widest least spots.now }
-{
+fn widest(least: usize, spots: &[Spot]) -> usize {
     let mut most = least;
     for spot in spots {
         most = most.max(spot.columns);
@@ -220,10 +188,7 @@ fn widest(least: usize, spots: &[Spot]) -> usize
 }
 
 /// Where so many machines without an interface end that stand below all that hangs on switches, if there are any.
-#[tactic(auto, unfolding(crate::specs::Measures::pixels))]
-fn lone_end(count: usize, columns: usize, top: Px) -> Px
-    ensures { result.0 ≡ lone_end count columns top.0 }
-{
+fn lone_end(count: usize, columns: usize, top: Px) -> Px {
     if count == 0 {
         return top;
     }
@@ -232,14 +197,12 @@ fn lone_end(count: usize, columns: usize, top: Px) -> Px
 
 /// The number of the slot of a switch's own machines.
 pub(crate) fn own_slot(slots: &[Slot]) -> Option<usize>
-    ensures { result ≡ position is_own slots.now }
+    ensures { IfSome result (λ n. n < length slots.now) }
 {
     slots.iter().position(|slot| is_own(*slot))
 }
 
-fn is_own(slot: Slot) -> bool
-    ensures { result ≡ is_own slot }
-{
+fn is_own(slot: Slot) -> bool {
     match slot {
         Slot::Child(_) => false,
         Slot::Own => true,
@@ -247,9 +210,7 @@ fn is_own(slot: Slot) -> bool
 }
 
 /// Notes where the block of a slot begins.
-fn note_top(tops: &mut [Px], slot: Slot, top: Px)
-    ensures { tops.new ≡ with_top tops.old slot top.0 }
-{
+fn note_top(tops: &mut [Px], slot: Slot, top: Px) {
     match slot {
         Slot::Child(child) => set_at(tops, child, top),
         Slot::Own => {}
@@ -258,18 +219,14 @@ fn note_top(tops: &mut [Px], slot: Slot, top: Px)
 
 impl Layout {
     /// The card of a switch.
-    pub(crate) fn card(&self, switch: usize) -> Place
-        ensures { result ≡ card_in (slice_get self.now.spots.items switch) }
-    {
+    pub(crate) fn card(&self, switch: usize) -> Place {
         match self.spots.get(switch) {
             Some(spot) => spot.card,
             None => nowhere(),
         }
     }
 
-    fn block(&self, switch: usize) -> Px
-        ensures { result.0 ≡ block_in (slice_get self.now.spots.items switch) }
-    {
+    fn block(&self, switch: usize) -> Px {
         match self.spots.get(switch) {
             Some(spot) => spot.block,
             None => Px(0),
@@ -277,9 +234,7 @@ impl Layout {
     }
 
     /// How high a slot of a switch is.
-    fn slot_high(&self, spot: &Spot, slot: Slot) -> Px
-        ensures { result.0 ≡ slot_high self.now.spots.items spot.now slot }
-    {
+    fn slot_high(&self, spot: &Spot, slot: Slot) -> Px {
         match slot {
             Slot::Child(child) => self.block(child),
             Slot::Own => spot.band.high.max(BAND) + BETWEEN,
@@ -287,9 +242,7 @@ impl Layout {
     }
 
     /// How high these slots of a switch are.
-    fn heights(&self, spot: &Spot, slots: &[Slot]) -> Px
-        ensures { result.0 ≡ heights self.now.spots.items spot.now slots.now }
-    {
+    fn heights(&self, spot: &Spot, slots: &[Slot]) -> Px {
         let mut sum = Px(0);
         for slot in slots {
             sum = sum + self.slot_high(spot, *slot);
@@ -298,9 +251,7 @@ impl Layout {
     }
 
     /// How high all that hangs on a switch is, once that is known of its children.
-    fn block_of(&self, switch: usize) -> Px
-        ensures { result.0 ≡ block_of self.now.spots.items (slice_get self.now.spots.items switch) }
-    {
+    fn block_of(&self, switch: usize) -> Px {
         let Some(spot) = self.spots.get(switch) else {
             return Px(0);
         };
@@ -310,9 +261,7 @@ impl Layout {
 
     /// Notes how high all that hangs on a switch is.
     fn measure_one(&mut self, switch: usize)
-        ensures len { length self.new.spots.items ≡ length self.old.spots.items }
-        ensures spots { self.new.spots.items ≡ with_block self.old.spots.items switch (slice_get self.old.spots.items switch) }
-        ensures rest { self.new ≡ record self.old { spots = self.new.spots } }
+        ensures { length self.new.spots.items ≡ length self.old.spots.items }
     {
         let block = self.block_of(switch);
         if switch < self.spots.len() {
@@ -322,9 +271,7 @@ impl Layout {
 
     /// From the leaves up: how high each block is.
     fn measure(&mut self, order: &[usize])
-        ensures len { length self.new.spots.items ≡ length self.old.spots.items }
-        ensures spots { self.new.spots.items ≡ measured self.old.spots.items order.now }
-        ensures rest { self.new ≡ record self.old { spots = self.new.spots } }
+        ensures { length self.new.spots.items ≡ length self.old.spots.items }
     {
         for at in (0..order.len()).rev() {
             self.measure_one(order[at]);
@@ -332,17 +279,12 @@ impl Layout {
     }
 
     /// Where the first slot of a switch begins.
-    fn first_top(&self, spot: &Spot, top: Px) -> Px
-        ensures { result.0 ≡ first_top self.now.spots.items spot.now top.0 }
-    {
+    fn first_top(&self, spot: &Spot, top: Px) -> Px {
         top + (spot.block - self.heights(spot, spot.slots.as_slice())) / 2
     }
 
     /// Where a switch's machines stand: in the midst of their slot, or of its block.
-    #[tactic(auto, using(crate::proofs::Sums::pixels_more))]
-    fn own_top(&self, spot: &Spot, top: Px) -> Px
-        ensures { result.0 ≡ own_top self.now.spots.items spot.now top.0 }
-    {
+    fn own_top(&self, spot: &Spot, top: Px) -> Px {
         match own_slot(spot.slots.as_slice()) {
             Some(number) => {
                 let before = self.heights(spot, &spot.slots.as_slice()[..number]);
@@ -354,9 +296,7 @@ impl Layout {
     }
 
     /// Notes the tops of a switch's slots below one another.
-    fn hang(&self, spot: &Spot, top: Px, tops: &mut [Px])
-        ensures { tops.new ≡ hung self.now.spots.items (Some spot.now) top.0 tops.old }
-    {
+    fn hang(&self, spot: &Spot, top: Px, tops: &mut [Px]) {
         let mut y = self.first_top(spot, top);
         for slot in spot.slots.as_slice() {
             note_top(tops, *slot, y);
@@ -367,10 +307,7 @@ impl Layout {
     /// Puts a switch's card and its machines there.
     fn put_spot(&mut self, switch: usize, card: Px, own: Px)
         requires { switch < length self.old.spots.items }
-        ensures len { length self.new.spots.items ≡ length self.old.spots.items }
-        ensures spots { (p : AnySpot) → slice_get self.old.spots.items switch ≡ Some p
-            → self.new.spots.items ≡ slice_set self.old.spots.items switch (put_spot p card.0 own.0) }
-        ensures rest { self.new ≡ record self.old { spots = self.new.spots } }
+        ensures { length self.new.spots.items ≡ length self.old.spots.items }
     {
         let spot = &mut self.spots[switch];
         spot.card.y = card;
@@ -379,10 +316,7 @@ impl Layout {
 
     /// Puts a block there: its card in its midst, and below another the blocks of its slots, whose tops are noted.
     fn put(&mut self, switch: usize, top: Px, tops: &mut [Px])
-        ensures len { length self.new.spots.items ≡ length self.old.spots.items }
-        ensures spots { self.new.spots.items ≡ with_put self.old.spots.items switch top.0 (slice_get self.old.spots.items switch) }
-        ensures tops { tops.new ≡ hung self.old.spots.items (slice_get self.old.spots.items switch) top.0 tops.old }
-        ensures rest { self.new ≡ record self.old { spots = self.new.spots } }
+        ensures { length self.new.spots.items ≡ length self.old.spots.items }
     {
         let Some(spot) = self.spots.get(switch) else {
             return;
@@ -394,10 +328,7 @@ impl Layout {
     }
 
     /// Notes the tops of the roots' blocks below one another. The answer is where the last one ends.
-    fn put_roots(&self, roots: &[usize], top: Px, tops: &mut [Px]) -> Px
-        ensures end { result.0 ≡ (rooted self.now.spots.items top.0 tops.old roots.now).end }
-        ensures tops { tops.new ≡ (rooted self.now.spots.items top.0 tops.old roots.now).tops }
-    {
+    fn put_roots(&self, roots: &[usize], top: Px, tops: &mut [Px]) -> Px {
         let mut y = top;
         for root in roots {
             set_at(tops, *root, y);
@@ -408,9 +339,7 @@ impl Layout {
 
     /// Puts the switches in that order, where their parents have noted.
     fn put_each(&mut self, order: &[usize], tops: &mut [Px])
-        ensures len { length self.new.spots.items ≡ length self.old.spots.items }
-        ensures spots { self.new.spots.items ≡ (all_put (record { spots = self.old.spots.items; tops = tops.old }) order.now).spots }
-        ensures rest { self.new ≡ record self.old { spots = self.new.spots } }
+        ensures { length self.new.spots.items ≡ length self.old.spots.items }
     {
         for switch in order {
             let top = at(tops, *switch);
@@ -420,9 +349,7 @@ impl Layout {
 
     /// From the roots down: where each block stands. The answer is where the last one ends.
     fn put_all(&mut self, alloc: Global, forest: &Forest, top: Px) -> Result<Px, Memory>
-        ensures len { OnOk result (length self.new.spots.items ≡ length self.old.spots.items) }
-        ensures put { IfOk result (λ end. IsAllPut self.old.spots.items self.new.spots.items forest.now top.0 end.0) }
-        ensures rest { OnOk result (self.new ≡ record self.old { spots = self.new.spots }) }
+        ensures { OnOk result (length self.new.spots.items ≡ length self.old.spots.items) }
     {
         let mut tops = bare(alloc, self.spots.len())?;
         let end = self.put_roots(&forest.roots, top, &mut tops);
@@ -432,16 +359,21 @@ impl Layout {
 }
 
 /// The width of a layout from the end of its last column and its longest row.
-fn wide_of(end: Px, cell: Px, columns: usize) -> Px
-    ensures { result.0 ≡ wide_with end.0 cell.0 columns }
-{
+fn wide_of(end: Px, cell: Px, columns: usize) -> Px {
     (end + BESIDE + row_wide(cell, columns) + MARGIN).max(LEAST)
 }
 
+/// How many machines fit a row of the narrowest picture, from 4 to 32.
+pub(crate) fn fitting(alloc: Global, plan: Plan<'_>, cell: Px) -> Result<usize, Memory> {
+    let columns = columns_of_lab(alloc, plan)?;
+    let room = LEAST - columns.end() - BESIDE - MARGIN;
+    let count = room / (cell + GAP).0;
+    Ok(count.max(Px(4)).min(Px(32)).0 as usize)
+}
+
 /// The layout with at most so many machines in a row, whose tops aren't known yet.
-#[tactic(auto, using(crate::proofs::Layouts::firsts), unfolding(crate::specs::Layouts::wide_at))]
 fn begun(alloc: Global, plan: Plan<'_>, cell: Px, most: usize) -> Result<Layout, Memory>
-    ensures { IfOk result (IsBegun plan.entry.view.now plan.entry.rows.now plan.entry.forest.now cell.0 most) }
+    ensures { IfOk result (λ layout. length layout.spots.items ≡ length plan.entry.view.now.switches) }
 {
     let columns = columns_of_lab(alloc, plan)?;
     let lone = plan.rows.lone.len();
@@ -466,8 +398,7 @@ pub(crate) fn layout_of(
     cell: Px,
     most: usize,
 ) -> Result<Layout, Memory>
-    ensures spots { IfOk result (λ layout. length layout.spots.items ≡ length plan.entry.view.now.switches) }
-    ensures layout { IfOk result (IsLayout plan.entry.view.now plan.entry.rows.now plan.entry.forest.now cell.0 most) }
+    ensures { IfOk result (λ layout. length layout.spots.items ≡ length plan.entry.view.now.switches) }
 {
     let mut layout = begun(alloc, plan, cell, most)?;
     layout.measure(&plan.forest.order);

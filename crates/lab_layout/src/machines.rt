@@ -1,6 +1,4 @@
 // How wide machines are, and how they stand in rows.
-ghost use Rattle.std.specs.Prelude.{◌≡◌};
-ghost use Rattle.lab_layout.specs.Heights.{cell_width, machine_wide, held_wide, machines_wide, columns_for, rows_high};
 
 use crate::layout::{CELL_HIGH, GAP};
 use crate::limits::LEAST_WIDE;
@@ -8,24 +6,17 @@ use crate::px::{Px, width};
 use lab_view::View;
 
 /// The width of a machine by its name.
-fn machine_wide(letters: usize) -> Px
-    ensures { result.0 ≡ machine_wide letters }
-{
+fn machine_wide(letters: usize) -> Px {
     width(letters, 105) + 22
 }
 
 /// The width of a machine by the name of an experiment, of which it shows up to 12 letters.
-#[tactic(auto, unfolding(crate::specs::Measures::pixels))]
-fn held_wide(letters: usize) -> Px
-    ensures { result.0 ≡ held_wide letters }
-{
+fn held_wide(letters: usize) -> Px {
     width(letters.min(12), 90) + width(4, 90) + 20
 }
 
 /// The width of a machine by the names of machines, of which it has room for at least 9 letters.
-fn machines_wide(view: &View) -> Px
-    ensures { result.0 ≡ machines_wide view.now }
-{
+fn machines_wide(view: &View) -> Px {
     let mut most = Px(u64::from(LEAST_WIDE));
     for machine in view.machines.as_slice() {
         most = most.max(machine_wide(machine.name.bytes().len()));
@@ -34,10 +25,7 @@ fn machines_wide(view: &View) -> Px
 }
 
 /// The width of a machine: of the names of machines, and of those of experiments.
-#[tactic(auto, unfolding(crate::specs::Heights::cell_width))]
-pub(crate) fn cell_width(view: &View) -> Px
-    ensures { result.0 ≡ cell_width view.now }
-{
+pub(crate) fn cell_width(view: &View) -> Px {
     let mut most = machines_wide(view);
     for exp in view.experiments.as_slice() {
         most = most.max(held_wide(exp.name.bytes().len()));
@@ -46,10 +34,7 @@ pub(crate) fn cell_width(view: &View) -> Px
 }
 
 /// How many machines a row has where a switch has so many: the rows are equally long.
-#[tactic(auto, unfolding(crate::specs::Heights::columns_for))]
-pub(crate) fn columns_for(count: usize, most: usize) -> usize
-    ensures { result ≡ columns_for count most }
-{
+pub(crate) fn columns_for(count: usize, most: usize) -> usize {
     if count == 0 || most == 0 {
         return 0;
     }
@@ -57,10 +42,7 @@ pub(crate) fn columns_for(count: usize, most: usize) -> usize
 }
 
 /// How high machines in so many columns are.
-#[tactic(auto, unfolding(crate::specs::Heights::rows_high, crate::specs::Measures::pixels))]
-pub(crate) fn rows_high(count: usize, columns: usize) -> Px
-    ensures { result.0 ≡ rows_high count columns }
-{
+pub(crate) fn rows_high(count: usize, columns: usize) -> Px {
     if columns == 0 {
         return Px(0);
     }

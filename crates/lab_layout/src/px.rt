@@ -1,6 +1,4 @@
 // Measures.
-ghost use Rattle.std.specs.Prelude.{◌≡◌, ◌+◌, ◌-◌, ◌*◌, ◌/◌, min, max, slice_set};
-ghost use Rattle.lab_layout.specs.Measures.{pixels, at, nowhere, small, widened, width};
 
 use std::ops::{Add, Div, Mul, Sub};
 
@@ -11,9 +9,6 @@ pub(crate) struct Px(pub(crate) u64);
 impl Add for Px {
     type Output = Px;
 
-    ghost add_gives = { λ a b r. r.0 ≡ pixels (a.0 + b.0) };
-
-    #[tactic(auto, unfolding(crate::specs::Measures::pixels))]
     fn add(self, other: Px) -> Px {
         Px(self.0.saturating_add(other.0))
     }
@@ -22,9 +17,6 @@ impl Add for Px {
 impl Add<u64> for Px {
     type Output = Px;
 
-    ghost add_gives = { λ a b r. r.0 ≡ pixels (a.0 + b) };
-
-    #[tactic(auto, unfolding(crate::specs::Measures::pixels))]
     fn add(self, other: u64) -> Px {
         Px(self.0.saturating_add(other))
     }
@@ -32,8 +24,6 @@ impl Add<u64> for Px {
 
 impl Sub for Px {
     type Output = Px;
-
-    ghost sub_gives = { λ a b r. r.0 ≡ a.0 - b.0 };
 
     fn sub(self, other: Px) -> Px {
         Px(self.0.saturating_sub(other.0))
@@ -43,8 +33,6 @@ impl Sub for Px {
 impl Sub<u64> for Px {
     type Output = Px;
 
-    ghost sub_gives = { λ a b r. r.0 ≡ a.0 - b };
-
     fn sub(self, other: u64) -> Px {
         Px(self.0.saturating_sub(other))
     }
@@ -53,9 +41,6 @@ impl Sub<u64> for Px {
 impl Mul<u64> for Px {
     type Output = Px;
 
-    ghost mul_gives = { λ a b r. r.0 ≡ pixels (a.0 * b) };
-
-    #[tactic(auto, unfolding(crate::specs::Measures::pixels))]
     fn mul(self, times: u64) -> Px {
         Px(self.0.saturating_mul(times))
     }
@@ -64,8 +49,6 @@ impl Mul<u64> for Px {
 /// A part of a measure; none of it where there are no parts.
 impl Div<u64> for Px {
     type Output = Px;
-
-    ghost div_gives = { λ a b r. r.0 ≡ a.0 / b };
 
     fn div(self, parts: u64) -> Px {
         match self.0.checked_div(parts) {
@@ -77,23 +60,17 @@ impl Div<u64> for Px {
 
 impl Px {
     /// The greater of two.
-    pub(crate) fn max(self, other: Px) -> Px
-        ensures { result.0 ≡ max self.0 other.0 }
-    {
+    pub(crate) fn max(self, other: Px) -> Px {
         if other.0 > self.0 { other } else { self }
     }
 
     /// The lesser of two.
-    pub(crate) fn min(self, other: Px) -> Px
-        ensures { result.0 ≡ min self.0 other.0 }
-    {
+    pub(crate) fn min(self, other: Px) -> Px {
         if other.0 < self.0 { other } else { self }
     }
 
     /// How far two are apart.
-    pub(crate) fn apart(self, other: Px) -> Px
-        ensures { result.0 ≡ self.0 - other.0 + (other.0 - self.0) }
-    {
+    pub(crate) fn apart(self, other: Px) -> Px {
         (self - other).max(other - self)
     }
 }
@@ -108,9 +85,7 @@ pub(crate) struct Place {
 }
 
 /// A box of no size.
-pub(crate) fn nowhere() -> Place
-    ensures { result ≡ nowhere }
-{
+pub(crate) fn nowhere() -> Place {
     Place {
         x: Px(0),
         y: Px(0),
@@ -120,9 +95,7 @@ pub(crate) fn nowhere() -> Place
 }
 
 /// The measure of that number in a list, 0 beyond its end.
-pub(crate) fn at(list: &[Px], number: usize) -> Px
-    ensures { result.0 ≡ at list.now number }
-{
+pub(crate) fn at(list: &[Px], number: usize) -> Px {
     match list.get(number) {
         Some(measure) => *measure,
         None => Px(0),
@@ -130,35 +103,26 @@ pub(crate) fn at(list: &[Px], number: usize) -> Px
 }
 
 /// Makes the measure of that number this one; beyond the list's end there is none.
-pub(crate) fn set_at(list: &mut [Px], number: usize, measure: Px)
-    ensures { list.new ≡ slice_set list.old number measure }
-{
+pub(crate) fn set_at(list: &mut [Px], number: usize, measure: Px) {
     if number < list.len() {
         list[number] = measure;
     }
 }
 
 /// Makes the measure of that number at least so much.
-pub(crate) fn widen(list: &mut [Px], number: usize, least: Px)
-    ensures { list.new ≡ widened list.old number least.0 }
-{
+pub(crate) fn widen(list: &mut [Px], number: usize, least: Px) {
     let measure = at(list, number).max(least);
     set_at(list, number, measure);
 }
 
 /// How wide so many letters of a fixed-width face are, in a size of so many tenths of a pixel: 0.602 of the size each.
-#[tactic(auto, using(crate::proofs::Sums::width_kept))]
-pub(crate) fn width(letters: usize, tenths: u64) -> Px
-    ensures { result.0 ≡ width letters tenths }
-{
+pub(crate) fn width(letters: usize, tenths: u64) -> Px {
     (Px(letters as u64) * tenths * 602 + 9_999) / 10_000
 }
 
 impl Px {
     /// The measure as a picture has it.
-    pub(crate) fn small(self) -> u32
-        ensures { result ≡ small self.0 }
-    {
+    pub(crate) fn small(self) -> u32 {
         if self.0 < 4_000_000_000 {
             self.0 as u32
         } else {

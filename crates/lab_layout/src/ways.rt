@@ -1,7 +1,4 @@
 // The lines of trunks, and those to a switch's own machines.
-ghost use Rattle.std.specs.Prelude.{◌≡◌};
-ghost use Rattle.lab_layout.specs.Cells.{small_box};
-ghost use Rattle.lab_layout.specs.Ways.{digits_of, wide_of, bent, corners, right, middle, end_x, end_y, port, turn, lane_at, way_of, line_of};
 
 use crate::columns::{PORT, TURN, lane_of};
 use crate::layout::{Layout, Slot, Spot};
@@ -10,15 +7,12 @@ use lab_picture::{Bend, Line, Point, Way};
 use lab_view::Trunk;
 
 /// How many digits a number has; 0 has none.
-#[tactic(auto, using(crate::proofs::Digits::digits_less, crate::proofs::Digits::digits_none))]
-fn digits_of(number: u64) -> u64
-    ensures { result ≡ digits_of 20 number }
-{
-    let mut count = 0;
+fn digits_of(number: u64) -> u64 {
+    let mut count = 0_u64;
     let mut rest = number;
     for _digit in 0..20_usize {
         if rest > 0 {
-            count += 1;
+            count = count.saturating_add(1);
             rest /= 10;
         }
     }
@@ -26,18 +20,12 @@ fn digits_of(number: u64) -> u64
 }
 
 /// How wide a trunk is drawn: wider by 2 pixels for each digit of its kbps.
-#[tactic(auto, using(crate::proofs::Digits::digits_few), unfolding(crate::specs::Measures::pixels))]
-pub(crate) fn wide_of(kbps: u64) -> Px
-    ensures { result.0 ≡ wide_of kbps }
-{
+pub(crate) fn wide_of(kbps: u64) -> Px {
     (Px(2) * digits_of(kbps)).max(Px(8)) - 3
 }
 
 /// A way: from a point to the right, up or down in its lane, and on to the right, with round corners.
-#[tactic(auto, unfolding(crate::specs::Ways::bent))]
-fn bent(from: (Px, Px), lane: Px, to: (Px, Px)) -> Way
-    ensures { result ≡ bent from.0.0 from.1.0 lane.0 to.0.0 to.1.0 }
-{
+fn bent(from: (Px, Px), lane: Px, to: (Px, Px)) -> Way {
     let (x, start) = from;
     let (end, below) = to;
     // (a step of a pixel or two would look like a fault)
@@ -60,10 +48,7 @@ fn bent(from: (Px, Px), lane: Px, to: (Px, Px)) -> Way
     }
 }
 
-#[tactic(auto, unfolding(crate::specs::Ways::corners))]
-fn corners(y: Px, lane: Px, below: Px) -> Bend
-    ensures { result ≡ corners y.0 lane.0 below.0 }
-{
+fn corners(y: Px, lane: Px, below: Px) -> Bend {
     let round = (y.apart(below) / 2).min(Px(9));
     let (leave, enter) = if below > y {
         (y + round, below - round)
@@ -82,24 +67,17 @@ fn corners(y: Px, lane: Px, below: Px) -> Bend
 }
 
 /// The right edge of a box.
-fn right(place: Place) -> Px
-    ensures { result.0 ≡ right place }
-{
+fn right(place: Place) -> Px {
     place.x + place.wide
 }
 
 /// The middle of a box from top to bottom.
-pub(crate) fn middle(place: Place) -> Px
-    ensures { result.0 ≡ middle place }
-{
+pub(crate) fn middle(place: Place) -> Px {
     place.y + place.high / 2
 }
 
 /// Where the line of a slot ends.
-fn end_of(layout: &Layout, spot: &Spot, slot: Slot) -> (Px, Px)
-    ensures x { result.0.0 ≡ end_x layout.now.spots.items layout.now.last.0 slot }
-    ensures y { result.1.0 ≡ end_y layout.now.spots.items spot.now slot }
-{
+fn end_of(layout: &Layout, spot: &Spot, slot: Slot) -> (Px, Px) {
     match slot {
         Slot::Child(child) => {
             let card = layout.card(child);
@@ -110,18 +88,14 @@ fn end_of(layout: &Layout, spot: &Spot, slot: Slot) -> (Px, Px)
 }
 
 /// Where the line of the slot of that number leaves the card.
-fn port(spot: &Spot, number: usize) -> Px
-    ensures { result.0 ≡ port spot.now number }
-{
+fn port(spot: &Spot, number: usize) -> Px {
     let between = spot.slots.len().saturating_sub(1) as u64;
     middle(spot.card) - PORT * between / 2 + PORT * number as u64
 }
 
 /// Which lane the line of the slot of that number takes when it ends at that height. Those that run up turn the sooner the higher
 /// they end, those that run down the sooner the lower they do, so that no two cross.
-fn turn_of(spot: &Spot, number: usize, below: Px) -> usize
-    ensures { result ≡ turn spot.now number below.0 }
-{
+fn turn_of(spot: &Spot, number: usize, below: Px) -> usize {
     if below < port(spot, number) {
         number
     } else {
@@ -130,28 +104,20 @@ fn turn_of(spot: &Spot, number: usize, below: Px) -> usize
 }
 
 /// Where that lane behind a card is.
-#[tactic(auto, unfolding(crate::specs::Measures::pixels))]
-fn lane_at(spot: &Spot, turn: usize) -> Px
-    ensures { result.0 ≡ lane_at spot.now turn }
-{
+fn lane_at(spot: &Spot, turn: usize) -> Px {
     let lane = lane_of(spot.slots.len());
     right(spot.card) + TURN + lane * turn as u64
 }
 
 /// The line of a slot: from the card's right edge to its child's card, or to its own machines.
-#[tactic(auto, unfolding(crate::specs::Ways::way_of))]
-pub(crate) fn way_of(layout: &Layout, spot: &Spot, number: usize, slot: Slot) -> Way
-    ensures { result ≡ way_of layout.now.spots.items layout.now.last.0 spot.now number slot }
-{
+pub(crate) fn way_of(layout: &Layout, spot: &Spot, number: usize, slot: Slot) -> Way {
     let (end, below) = end_of(layout, spot, slot);
     let lane = lane_at(spot, turn_of(spot, number, below));
     bent((right(spot.card), port(spot, number)), lane, (end, below))
 }
 
 /// The line of a trunk.
-pub(crate) fn line_of(trunk: &Trunk, way: Way) -> Line
-    ensures { result ≡ line_of trunk.now.kbps way }
-{
+pub(crate) fn line_of(trunk: &Trunk, way: Way) -> Line {
     Line {
         way,
         wide: wide_of(trunk.kbps).small(),
@@ -159,9 +125,7 @@ pub(crate) fn line_of(trunk: &Trunk, way: Way) -> Line
 }
 
 /// A box as the picture has it.
-pub(crate) fn small(place: Place) -> lab_picture::Place
-    ensures { result ≡ small_box place }
-{
+pub(crate) fn small(place: Place) -> lab_picture::Place {
     lab_picture::Place {
         x: place.x.small(),
         y: place.y.small(),

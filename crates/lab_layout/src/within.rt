@@ -1,9 +1,6 @@
 // How far a picture reaches.
 ghost use Rattle.std.specs.Prelude.{◌≡◌, ◌≤◌, ◌+◌, max, All};
-ghost use Rattle.std.specs.List.{fold};
 ghost use Rattle.lab_layout.specs.Laid.{IsIn, IsPointIn, IsCardIn, IsEchoIn};
-ghost use Rattle.lab_layout.specs.Drawn.{over_picture};
-ghost use Rattle.lab_layout.specs.Reaches.{over, over_point, over_card, over_echo};
 
 use lab_picture::{Card, Echo, Place, Point};
 
@@ -25,7 +22,6 @@ fn farther(reached: u64, start: u32, size: u32) -> u64
 impl Reach {
     /// As far as a box too.
     pub(crate) fn over(self, place: Place) -> Reach
-        ensures reach { result ≡ over self place }
         ensures wide { self.wide ≤ result.wide }
         ensures high { self.high ≤ result.high }
         ensures inside { IsIn result.wide result.high place }
@@ -37,7 +33,6 @@ impl Reach {
     }
 
     fn over_point(self, point: Point) -> Reach
-        ensures reach { result ≡ over_point self point }
         ensures wide { self.wide ≤ result.wide }
         ensures high { self.high ≤ result.high }
         ensures inside { IsPointIn result.wide result.high point }
@@ -49,7 +44,6 @@ impl Reach {
     }
 
     fn over_echo(self, echo: &Option<Echo>) -> Reach
-        ensures reach { result ≡ over_echo self echo.now }
         ensures wide { self.wide ≤ result.wide }
         ensures high { self.high ≤ result.high }
         ensures inside { IsEchoIn result.wide result.high echo.now }
@@ -62,7 +56,6 @@ impl Reach {
 
     /// As far as all boxes too.
     pub(crate) fn over_all(self, places: &[Place]) -> Reach
-        ensures reach { result ≡ fold over self places.now }
         ensures wide { self.wide ≤ result.wide }
         ensures high { self.high ≤ result.high }
         ensures inside { All (IsIn result.wide result.high) places.now }
@@ -76,7 +69,6 @@ impl Reach {
 
     /// As far as all points too.
     pub(crate) fn over_points(self, points: &[Point]) -> Reach
-        ensures reach { result ≡ fold over_point self points.now }
         ensures wide { self.wide ≤ result.wide }
         ensures high { self.high ≤ result.high }
         ensures inside { All (IsPointIn result.wide result.high) points.now }
@@ -90,7 +82,6 @@ impl Reach {
 
     /// As far as all cards too.
     pub(crate) fn over_cards(self, cards: &[Card]) -> Reach
-        ensures reach { result ≡ fold over_card self cards.now }
         ensures wide { self.wide ≤ result.wide }
         ensures high { self.high ≤ result.high }
         ensures inside { All (IsCardIn result.wide result.high) cards.now }
@@ -104,7 +95,6 @@ impl Reach {
 
     /// As far as all second cards too.
     pub(crate) fn over_echoes(self, echoes: &[Option<Echo>]) -> Reach
-        ensures reach { result ≡ fold over_echo self echoes.now }
         ensures wide { self.wide ≤ result.wide }
         ensures high { self.high ≤ result.high }
         ensures inside { All (IsEchoIn result.wide result.high) echoes.now }
@@ -125,7 +115,6 @@ impl Reach {
         echoes: &[Option<Echo>],
         entries: &[Point],
     ) -> Reach
-        ensures reach { result ≡ over_picture self strip cells.now cards.now echoes.now entries.now }
         ensures strip { IsIn result.wide result.high strip }
         ensures cells { All (IsIn result.wide result.high) cells.now }
         ensures cards { All (IsCardIn result.wide result.high) cards.now }

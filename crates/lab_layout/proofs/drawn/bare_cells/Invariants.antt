@@ -1,6 +1,5 @@
-use Rattle.std.proofs.Common.{◌≡◌, replicate}
-use Rattle.lab_layout.specs.Cells.{no_place}
+use Rattle.std.proofs.Common.{◌≡◌, length}
 use Rattle.lab_layout.proofs.drawn.bare_cells.Given as goal
 
 abbrev pub invariant-loop-number : goal.invariant-loop-number
-invariant-loop-number l = l.cells.items ≡ replicate l._number no_place
+invariant-loop-number l = length l.cells.items ≡ l._number

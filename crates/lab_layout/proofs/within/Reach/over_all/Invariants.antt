@@ -1,13 +1,10 @@
-use Rattle.std.proofs.Common.{◌≡◌, ◌≤◌, ◌<◌, ℕ, get_or, take}
-use Rattle.std.specs.List.{fold}
+use Rattle.std.proofs.Common.{◌≤◌, ◌<◌, ℕ, get_or}
 use Rattle.lab_picture.specs.declared.geometry.Place.{Place}
-use Rattle.lab_layout.specs.Reaches.{over}
 use Rattle.lab_layout.specs.Laid.{IsIn}
 use Rattle.lab_layout.proofs.within.Reach.over_all.Given as goal
 
 abbrev pub invariant-loop-place : goal.invariant-loop-place
 invariant-loop-place l = record {
-  reach : l.reach ≡ fold over l.initial.reach (take l.place-index l.places);
   wide : l.initial.reach.wide ≤ l.reach.wide;
   high : l.initial.reach.high ≤ l.reach.high;
   inside : (k : ℕ) (d : Place) → k < l.place-index → IsIn l.reach.wide l.reach.high (get_or l.places k d);

@@ -1,13 +1,10 @@
-use Rattle.std.proofs.Common.{◌≡◌, ◌≤◌, ◌<◌, ℕ, get_or, take}
-use Rattle.std.specs.List.{fold}
+use Rattle.std.proofs.Common.{◌≤◌, ◌<◌, ℕ, get_or}
 use Rattle.lab_picture.specs.declared.geometry.Card.{Card}
-use Rattle.lab_layout.specs.Reaches.{over_card}
 use Rattle.lab_layout.specs.Laid.{IsCardIn}
 use Rattle.lab_layout.proofs.within.Reach.over_cards.Given as goal
 
 abbrev pub invariant-loop-card : goal.invariant-loop-card
 invariant-loop-card l = record {
-  reach : l.reach ≡ fold over_card l.initial.reach (take l.card-index l.cards);
   wide : l.initial.reach.wide ≤ l.reach.wide;
   high : l.initial.reach.high ≤ l.reach.high;
   inside : (k : ℕ) (d : Card) → k < l.card-index → IsCardIn l.reach.wide l.reach.high (get_or l.cards k d);

@@ -1,13 +1,10 @@
-use Rattle.std.proofs.Common.{◌≡◌, ◌≤◌, ◌<◌, ℕ, get_or, take, Option}
-use Rattle.std.specs.List.{fold}
+use Rattle.std.proofs.Common.{◌≤◌, ◌<◌, ℕ, get_or, Option}
 use Rattle.lab_picture.specs.declared.geometry.Echo.{Echo}
-use Rattle.lab_layout.specs.Reaches.{over_echo}
 use Rattle.lab_layout.specs.Laid.{IsEchoIn}
 use Rattle.lab_layout.proofs.within.Reach.over_echoes.Given as goal
 
 abbrev pub invariant-loop-echo : goal.invariant-loop-echo
 invariant-loop-echo l = record {
-  reach : l.reach ≡ fold over_echo l.initial.reach (take l.echo-index l.echoes);
   wide : l.initial.reach.wide ≤ l.reach.wide;
   high : l.initial.reach.high ≤ l.reach.high;
   inside : (k : ℕ) (d : Option Echo) → k < l.echo-index → IsEchoIn l.reach.wide l.reach.high (get_or l.echoes k d);
