@@ -273,6 +273,21 @@ in_both terms set s session only exp text lines opening own after reply step is 
     by (silent none) = let both : None ≡ Some reply = sym none ∙ is in absurd (cc both)
     by (broke told told_is breaks) = inl (subst TellsBroken (same_Some told reply (sym told_is ∙ is)) breaks)
 
+-- from an open session
+pub in_open : (terms : Terms) (set : Setting) (s : LabState) (opens : List OpenSwap) (only : Bool) (exp text : List ℕ) (lines : ℕ) (own : List Event) (after : After) (reply : Reply)
+    → StepOf None (DoesBy (JudgedBeside terms.rule (commands.SwapinWith only exp lines text)) set) terms s (Open opens) [] own after → after.reply ≡ Some reply → AllMove opens s
+    → (reply ≡ taken_reply only exp → IsFeasibleFor s exp text) × (IsFeasibleFor s exp text → (reply ≡ taken_reply only exp) ⊎ Hinders reply)
+in_open terms set s opens only exp text lines own after reply step is all = by step.1
+  where
+    by : IsDoneBy (JudgedBeside terms.rule (commands.SwapinWith only exp lines text) opens s) set s opens own after
+        → (reply ≡ taken_reply only exp → IsFeasibleFor s exp text) × (IsFeasibleFor s exp text → (reply ≡ taken_reply only exp) ⊎ Hinders reply)
+    by (does judgement judged d) =
+        let d = subst (λ (j : Result Task Reply). Does set s opens j own after) judged d in (
+          λ inside. only_if set s opens only exp text own after d (is ∙ ap (λ (r : Reply). Some r) inside),
+          λ f. by_done s only exp text f own after reply is (is_among (names_of opens) (Some exp)) (idle_where s exp f.experiment opens all f.found f.out) (length opens) set opens d,
+        )
+    by (no_memory wants) = let both : None ≡ Some reply = sym (ap (λ (a : After). a.reply) wants.after_is) ∙ is in absurd (cc both)
+
 broken_not : (only : Bool) (exp : List ℕ) → TellsBroken (taken_reply only exp) → ⊥
 broken_not true exp breaks = breaks
 broken_not false exp breaks = breaks

@@ -30,7 +30,8 @@ use Rattle.lab_top.specs.declared.command.CommandFault.{CommandFault}
 use Rattle.lab_top.specs.declared.command.CommandFault.TheVariants as faults
 use Rattle.lab_top.specs.Answering.{Begins, Ends, HasSession, Moment, Plans, StandsAt, piece_of, reply_if, HandsLab}
 use Rattle.lab_top.specs.Pieces.{Finds, FirstLab, IsDone, IsPlannedBy, StepsFrom, WantsOnly, reading as in_reading, blames_if, closes_if, leaves_one, stays_open, with_drill_if, GoesFrom, Piece}
-use Rattle.lab_top.proofs.Obeyed.{blames_none, ends_of, later_same, map_both}
+use Rattle.lab_top.proofs.HandedOn.{ends_of}
+use Rattle.lab_top.proofs.Obeyed.{blames_none, later_same, map_both}
 use Rattle.lab_top.proofs.Stepping.{AsRead, ImagesAt, after_of, all_some, done_at, lab_length, not_early, standing_all, standing_lab, told_so}
 
 -- THE STEP OF A DRILL over one trace: it has no steps, and its reply, if it has one, leaves the session as it was

@@ -13,14 +13,14 @@ use Rattle.script_text.specs.declared.reply.Reply.{Reply}
 use Rattle.script_text.specs.declared.reply.Reply.TheVariants as replies
 use Rattle.lab_judge.specs.Judge.{Task}
 use Rattle.lab_core.specs.Commands.{LabStep, is_about}
-use Rattle.lab_core.specs.Moments.{with_more}
+use Rattle.lab_core.specs.Moments.{trace_in, with_more}
 use Rattle.lab_core.specs.Sessions.{OpenSwap, Session, Closed, Open, Setting, After, names_of, open_at, Terms}
 use Rattle.lab_core.specs.Tells.{AllMove, Hinders, IsFeasibleFor, TellsBroken, busy_of, is_of_drill, of_drill_if, opens_of, taken_reply}
 use Rattle.lab_core.proofs.ListSteps.{about_not, all_leave, all_move, all_no_drill}
 use Rattle.lab_core.proofs.OpenLaws.{Leaves, names_differ, others_as_they_were, they_are_few}
-use Rattle.lab_core.proofs.SolutionLaws.{in_both}
-use Rattle.lab_top.specs.Pieces.{Piece, Begun, AreHandedOn, AreOthers, ButForReply, Counts, GoesFrom, HandLabsOn, NotOpened, OwnStep, StayOpen, is_closed, session_after, stays_open, steps_of}
-use Rattle.lab_top.specs.Ran.{Outside, Ran}
+use Rattle.lab_core.proofs.SolutionLaws.{in_open}
+use Rattle.lab_top.specs.Pieces.{Piece, Begun, AreHandedOn, AreOthers, ButForReply, Counts, GoesFrom, HandLabsOn, NotOpened, OwnStep, StayOpen, is_closed, lab_behind, lab_from, session_after, stays_open, steps_of, traces_after}
+use Rattle.lab_top.specs.Ran.{Outside, Ran, behind_in, from_in}
 use Rattle.lab_top.specs.declared.status.Status.{Status}
 use Rattle.lab_words.specs.Words.{Choices}
 use Rattle.lab_top.proofs.RunLaws.{caused_at}
@@ -97,12 +97,9 @@ pub record HoldsOf (session : Session) (s : LabState) : Type 0 where
   pub differ : AllDiffer (busy_of session)
   pub all : AllMove (opens_of session) s
 
--- a piece, with what holds where it begins
-pub record At (terms : Terms) (b : Begun) : Type 0 where
-  pub trace : Option (List Event)
-  pub mid : LabState
-  pub last : LabState
-  pub goes : GoesFrom (drill_of b.piece.command) terms trace b.piece mid last
+-- a piece between two labs, with what holds where it begins
+pub record At (terms : Terms) (trace : Option (List Event)) (b : Begun) (mid last : LabState) : Type 0 where
+  pub goes : GoesFrom (drill_of b.piece.command) terms (with_more trace b.piece.opening) b.piece mid last
   pub holds : HoldsOf b.piece.from mid
 
 closed_holds : (session : Session) (s : LabState) → session ≡ Closed → HoldsOf session s
@@ -126,10 +123,11 @@ next_holds terms trace piece mid last shut goes h = by piece.to refl
           all = they_move_ever terms trace piece mid last shut goes open_now h.differ h.all;
         }
 
-walk : (terms : Terms) (entry exit : Faults) (trace : Option (List Event)) (s end : LabState) (session : Session) (before after : List Begun) (b : Begun) → HandLabsOn terms trace s (before ++ b ∷ after) end → Counts terms entry (before ++ b ∷ after) exit
-    → AreHandedOn session (before ++ b ∷ after) → HoldsOf session s → At terms b
+walk : (terms : Terms) (entry exit : Faults) (trace : Option (List Event)) (s end : LabState) (session : Session) (before after : List Begun) (b : Begun) (labs : HandLabsOn terms trace s (before ++ b ∷ after) end)
+    → Counts terms entry (before ++ b ∷ after) exit → AreHandedOn session (before ++ b ∷ after) → HoldsOf session s
+    → At terms (traces_after trace before) b (lab_from terms trace s end before after b labs) (lab_behind terms trace s end before after b labs)
 walk terms entry exit trace s end session [] after b labs counts handed h =
-    record { trace = with_more trace b.piece.opening; mid = labs.0; last = labs.1; goes = labs.3; holds = from_holds session b.piece.from s labs.0 handed.0 labs.2 h }
+    record { goes = labs.3; holds = from_holds session b.piece.from s labs.0 handed.0 labs.2 h }
 walk terms entry exit trace s end session (x ∷ before) after b labs counts handed h =
     walk terms x.later exit (with_more trace (steps_of x.piece)) labs.1 end x.piece.to before after b labs.4 counts.2 handed.1
     (next_holds terms (with_more trace x.piece.opening) x.piece labs.0 labs.1 counts.1.shut labs.3 (from_holds session x.piece.from s labs.0 handed.0 labs.2 h))
@@ -160,7 +158,7 @@ counts_behind terms entry exit (b ∷ before) rest counts = counts_behind terms 
 
 -- IN A RUN
 module _ (terms : Terms) (choices : Option Choices) (old new : Outside) (status : Status) where
-  pub at_one : (before after : List Begun) (b : Begun) → Ran terms choices old new status (before ++ b ∷ after) → At terms b
+  pub at_one : (before after : List Begun) (b : Begun) (r : Ran terms choices old new status (before ++ b ∷ after)) → At terms (traces_after (trace_in old.plant.told) before) b (from_in before after b r) (behind_in before after b r)
   at_one before after b r = walk terms _ _ _ r.labs.0 r.labs.1 Closed before after b r.labs.2 r.counts r.sessions (closed_holds Closed r.labs.0 refl)
 
   pub few_ever : (before after : List Begun) → Ran terms choices old new status (before ++ after) → (length (opens_of (session_after Closed before)) ≤ 16) × AllDiffer (busy_of (session_after Closed before))
@@ -175,16 +173,34 @@ module _ (terms : Terms) (choices : Option Choices) (old new : Outside) (status 
       ∙ swaps_ever terms n.0 _ l.0 l.1 r.labs.1 (session_after Closed before) middle after name l.2 n.1 (handed_behind Closed before (middle ++ after) r.sessions) open_now others
 
   module _ (before after : List Begun) (b : Begun) (r : Ran terms choices old new status (before ++ b ∷ after)) (no_drill : drill_of b.piece.command ≡ None) where
-    abbrev here : At terms b
+    abbrev mid : LabState
+    mid = from_in before after b r
+
+    abbrev last : LabState
+    last = behind_in before after b r
+
+    abbrev trace : Option (List Event)
+    trace = with_more (traces_after (trace_in old.plant.told) before) b.piece.opening
+
+    here : At terms (traces_after (trace_in old.plant.told) before) b mid last
     here = at_one before after b r
 
     -- its own part is a lab step, or the opening broke off
-    pub own_ever : NotOpened b.piece ⊎ ((trace : Option (List Event)) × (mid : LabState) × (last : LabState) × OwnStep terms trace b.piece mid last × AllMove (opens_of b.piece.from) mid)
-    own_ever = ⊎_elim (λ x. inr (here.trace, here.mid, here.last, x, here.holds.all)) (λ broke. inl broke) (subst (λ (d : Option Drill). GoesFrom d terms here.trace b.piece here.mid here.last) no_drill here.goes)
+    pub own_ever : NotOpened b.piece ⊎ (OwnStep terms trace b.piece mid last × AllMove (opens_of b.piece.from) mid)
+    own_ever = ⊎_elim (λ x. inr (x, here.holds.all)) (λ broke. inl broke) (subst (λ (d : Option Drill). GoesFrom d terms trace b.piece mid last) no_drill here.goes)
 
     module _ (reply : Reply) (is : b.piece.reply ≡ Some reply) where
-      broken_reply : NotOpened b.piece → TellsBroken reply
-      broken_reply broke = subst (λ (o : Option Reply). IfSome o TellsBroken) is broke.tells
+      abbrev told_here : OwnStep terms trace b.piece mid last → Type 0
+      told_here x = x.told ≡ Some reply
+
+      told_ever : (x : OwnStep terms trace b.piece mid last) → told_here x
+      told_ever x = (told_to terms trace b.piece mid last (caused_at terms _ _ before after b r.counts).shut x reply is).0
+
+      abbrev set_here : OwnStep terms trace b.piece mid last → Setting
+      set_here x = record { length = x.length; limit = 2 ^ 32; devices = b.piece.faults.devices }
+
+      abbrev ends_here : OwnStep terms trace b.piece mid last → After
+      ends_here x = record { reply = x.told; lab = last; session = x.session }
 
       no_drill_broken : (told : Reply) → TellsBroken told → is_of_drill told ≡ false
       no_drill_broken replies.Down broke = refl
@@ -193,25 +209,17 @@ module _ (terms : Terms) (choices : Option Choices) (old new : Outside) (status 
 
       pub undrilled_ever : is_of_drill reply ≡ false
       undrilled_ever =
-          ⊎_elim (λ broke. no_drill_broken reply (broken_reply broke))
-          (λ x.
-          let told = (told_to terms x.0 b.piece x.1 x.2 (caused_at terms _ _ before after b r.counts).shut x.3 reply is).0 in
-          ap of_drill_if (sym told)
-          ∙ all_no_drill terms x.0 (record { length = x.3.length; limit = 2 ^ 32; devices = b.piece.faults.devices }) x.1 (Open (opens_of b.piece.from)) b.piece.command [] (b.piece.own ++ x.3.behind) (record { reply = x.3.told; lab = x.2; session = x.3.session }) no_drill x.3.step)
+          ⊎_elim (λ broke. no_drill_broken reply (subst (λ (o : Option Reply). IfSome o TellsBroken) is broke.tells))
+          (λ x. ap of_drill_if (sym (told_ever x.0)) ∙ all_no_drill terms trace (set_here x.0) mid (Open (opens_of b.piece.from)) b.piece.command [] (b.piece.own ++ x.0.behind) (ends_here x.0) no_drill x.0.step)
           own_ever
 
       -- a supplied solution
       pub solved_ever : (only : Bool) (exp text : List ℕ) (lines : ℕ) → b.piece.command ≡ SwapinWith only exp lines text
-          → TellsBroken reply ⊎ ((mid : LabState) × (reply ≡ taken_reply only exp → IsFeasibleFor mid exp text) × (IsFeasibleFor mid exp text → (reply ≡ taken_reply only exp) ⊎ Hinders reply))
+          → NotOpened b.piece ⊎ ((reply ≡ taken_reply only exp → IsFeasibleFor mid exp text) × (IsFeasibleFor mid exp text → (reply ≡ taken_reply only exp) ⊎ Hinders reply))
       solved_ever only exp text lines asks =
-          ⊎_elim (λ broke. inl (broken_reply broke))
+          ⊎_elim (λ broke. inl broke)
           (λ x.
-          let told = (told_to terms x.0 b.piece x.1 x.2 (caused_at terms _ _ before after b r.counts).shut x.3 reply is).0 in
-          let set : Setting = record { length = x.3.length; limit = 2 ^ 32; devices = b.piece.faults.devices } in
-          let own = b.piece.own ++ x.3.behind in
-          let ends : After = record { reply = x.3.told; lab = x.2; session = x.3.session } in
-          let step = subst (λ (c : Command). LabStep terms x.0 set x.1 (Open (opens_of b.piece.from)) c [] own ends) asks x.3.step in
-          ⊎_elim (λ broken. inl broken)
-          (λ both. inr (both.0, both.2, both.3 x.4))
-          (in_both terms set x.1 (Open (opens_of b.piece.from)) only exp text lines [] own ends reply step told))
+          let own = b.piece.own ++ x.0.behind in
+          let step = subst (λ (c : Command). LabStep terms trace (set_here x.0) mid (Open (opens_of b.piece.from)) c [] own (ends_here x.0)) asks x.0.step in
+          inr (in_open terms (set_here x.0) mid (opens_of b.piece.from) only exp text lines own (ends_here x.0) reply step (told_ever x.0) x.1))
           own_ever

@@ -7,6 +7,7 @@ mod Compact
 mod Drilling
 mod Ended
 mod EveryPlant
+mod HandedOn
 mod Headline
 mod Moving
 mod Obeyed

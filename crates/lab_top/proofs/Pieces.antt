@@ -30,7 +30,7 @@ use Rattle.lab_top.specs.declared.command.CommandFault.TheVariants as faults
 use Rattle.lab_top.specs.declared.status.Status.TheVariants as statuses
 use Rattle.lab_top.specs.declared.status.Status.{Status}
 use Rattle.lab_top.specs.Answering.{Moment, HasSession, Made, Answered, marked, piece_of, StandsAt}
-use Rattle.lab_top.specs.Pieces.{Begun, steps_of, commands_of, planned_of, trace_after, with_drill_if, with_piece, with_pieces, IsCaused, Counts, FindsNone, IsPiece, AreHandedOn, ArePieces, reply_text, reply_texts, session_after, WantsOnly, GoesFrom, HandLabsOn, is_closed}
+use Rattle.lab_top.specs.Pieces.{Begun, steps_of, commands_of, planned_of, trace_after, traces_after, with_drill_if, with_piece, with_pieces, IsCaused, Counts, FindsNone, IsPiece, AreHandedOn, ArePieces, reply_text, reply_texts, session_after, WantsOnly, GoesFrom, HandLabsOn, is_closed}
 use Rattle.lab_top.specs.Ran.{AreAnswered, BegunCommands, EndsSo, GoesOn, LastFindsNone, LastIsNot, Outside, Ran, WroteReplies, Answered as StatusAnswered}
 use Rattle.lab_words.specs.Words.{Choices, Usual}
 use Rattle.lab_top.proofs.Obeyed.{goes_closed, map_both, map_three, trace_steps}
@@ -121,10 +121,6 @@ unmarked None faults P h = tt
 unmarked (Some t) faults P h = h
 
 -- THE LABS, and the traces where they are told
-traces_after : Option (List Event) → List Begun → Option (List Event)
-traces_after trace [] = trace
-traces_after trace (b ∷ begun) = traces_after (with_more trace (steps_of b.piece)) begun
-
 traced_drill : (told : Option Told) (drill : Option Drill) → trace_in (with_drill_if told drill) ≡ trace_in told
 traced_drill None None = refl
 traced_drill None (Some drill) = refl
@@ -136,7 +132,6 @@ traced_mark None faults = refl
 traced_mark (Some t) faults = refl
 
 traced : (told : Option Told) (begun : List Begun) → trace_in (with_pieces told begun) ≡ traces_after (trace_in told) begun
-unfolding traces_after
 traced told [] = refl
 traced told (b ∷ begun) =
     traced (with_piece told b) begun
@@ -145,7 +140,6 @@ traced told (b ∷ begun) =
 
 labs-push : (terms : Terms) (trace : Option (List Event)) (first last : LabState) (begun : List Begun) (b : Begun) → HandLabsOn terms trace first begun last → (mid after : LabState) → (is_closed b.piece.from ≡ false → mid ≡ last)
     → GoesFrom (drill_of b.piece.command) terms (with_more (traces_after trace begun) b.piece.opening) b.piece mid after → HandLabsOn terms trace first (begun ++ b ∷ []) after
-unfolding traces_after
 labs-push terms trace first last [] b is mid after from goes = (mid, after, λ open_now. from open_now ∙ is, goes, refl)
 labs-push terms trace first last (x ∷ begun) b are mid after from goes =
     (are.0, are.1, are.2, are.3, labs-push terms (with_more trace (steps_of x.piece)) are.1 last begun b are.4 mid after from goes)

@@ -74,6 +74,11 @@ abbrev pub trace_after : List Event → List Begun → List Event
 trace_after trace [] = trace
 trace_after trace (b ∷ begun) = trace_after (trace ++ steps_of b.piece) begun
 
+-- and where it is told
+abbrev pub traces_after : Option (List Event) → List Begun → Option (List Event)
+traces_after trace [] = trace
+traces_after trace (b ∷ begun) = traces_after (with_more trace (steps_of b.piece)) begun
+
 -- the drill that it planned
 abbrev pub planned_of : Begun → Option Drill
 planned_of b = if b.planned then drill_of b.piece.command else None
@@ -428,6 +433,17 @@ HandLabsOn terms trace s [] last = last ≡ s
 HandLabsOn terms trace s (b ∷ begun) last =
     (mid : LabState) × (after : LabState) × (is_closed b.piece.from ≡ false → mid ≡ s) × GoesFrom (drill_of b.piece.command) terms (with_more trace b.piece.opening) b.piece mid after
     × HandLabsOn terms (with_more trace (steps_of b.piece)) after begun last
+
+-- AMONG LABS THAT ARE HANDED ON, that from which the command behind these goes in its own part, and that to which it leads
+abbrev pub lab_from : (terms : Terms) (trace : Option (List Event)) (s last : LabState) (before after : List Begun) (b : Begun)
+    → HandLabsOn terms trace s (before ++ b ∷ after) last → LabState
+lab_from terms trace s last [] after b labs = labs.0
+lab_from terms trace s last (x ∷ before) after b labs = lab_from terms (with_more trace (steps_of x.piece)) labs.1 last before after b labs.4
+
+abbrev pub lab_behind : (terms : Terms) (trace : Option (List Event)) (s last : LabState) (before after : List Begun) (b : Begun)
+    → HandLabsOn terms trace s (before ++ b ∷ after) last → LabState
+lab_behind terms trace s last [] after b labs = labs.1
+lab_behind terms trace s last (x ∷ before) after b labs = lab_behind terms (with_more trace (steps_of x.piece)) labs.1 last before after b labs.4
 
 -- the text of the reply, if there is one
 abbrev pub text_if : Option Reply → List ℕ

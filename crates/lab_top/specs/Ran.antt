@@ -17,7 +17,7 @@ use Rattle.script_text.specs.Taking.{IsWithin}
 use Rattle.lab_top.specs.declared.status.Status.{Status}
 use Rattle.lab_top.specs.declared.status.Status.TheVariants.{Done, ReadFault, WriteFault, Usage, BadScript, Memory, JournalBad}
 use Rattle.lab_core.specs.Sessions.{Closed, Terms}
-use Rattle.lab_top.specs.Pieces.{Begun, AreHandedOn, ArePieces, Counts, FindsNone, commands_of, trace_after, with_pieces, reply_text, reply_texts, WantsOnly, HandLabsOn}
+use Rattle.lab_top.specs.Pieces.{Begun, AreHandedOn, ArePieces, Counts, FindsNone, commands_of, trace_after, with_pieces, reply_text, reply_texts, WantsOnly, HandLabsOn, lab_from, lab_behind}
 use Rattle.lab_top.specs.Tellers.{replies_of}
 use Rattle.lab_gen.specs.Script.{generated}
 use Rattle.lab_gen.specs.Summary.{summary}
@@ -201,3 +201,12 @@ pub record Ran (terms : Terms) (choices : Option Choices) (old new : Outside) (s
   pub begun : BegunBy (number_of choices) old.left new.left (commands_of made) status
   -- the output is the replies, or of a generated run their summary
   pub wrote : WroteBy (number_of choices) old.written new.written made status
+
+-- THE LABS OF A RUN, as they are handed on in it: that from which the command behind these goes in its own part, and that to which it leads
+abbrev pub from_in : {terms : Terms} {choices : Option Choices} {old new : Outside} {status : Status} (before after : List Begun) (b : Begun)
+    → Ran terms choices old new status (before ++ b ∷ after) → LabState
+from_in {terms} {choices} {old} before after b r = lab_from terms (trace_in old.plant.told) r.labs.0 r.labs.1 before after b r.labs.2
+
+abbrev pub behind_in : {terms : Terms} {choices : Option Choices} {old new : Outside} {status : Status} (before after : List Begun) (b : Begun)
+    → Ran terms choices old new status (before ++ b ∷ after) → LabState
+behind_in {terms} {choices} {old} before after b r = lab_behind terms (trace_in old.plant.told) r.labs.0 r.labs.1 before after b r.labs.2

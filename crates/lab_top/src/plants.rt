@@ -1,37 +1,37 @@
 // Laws of a run over every plant.
 ghost use Rattle.std.specs.Prelude.{◌≡◌, ◌⊎◌, ◌≤◌, ℕ, Bool, false, List, ◌∷◌, ◌++◌, length, Option, Some, None};
 ghost use Rattle.lab_base.specs.Lists.{AllDiffer};
-ghost use Rattle.plant.specs.Events.{Event};
-ghost use Rattle.records_model.specs.Labs.{LabState};
 ghost use Rattle.script_text.specs.Drills.{drill_of};
 ghost use Rattle.script_text.specs.declared.command.Command.TheVariants.{SwapinWith};
 ghost use Rattle.script_text.specs.declared.reply.Reply.{Reply};
+ghost use Rattle.lab_core.specs.Moments.{trace_in, with_more};
 ghost use Rattle.lab_core.specs.Sessions.{Closed, open_at, Terms};
-ghost use Rattle.lab_core.specs.Tells.{AllMove, Hinders, IsFeasibleFor, TellsBroken, busy_of, is_of_drill, opens_of, taken_reply};
-ghost use Rattle.lab_top.specs.Pieces.{AreOthers, Begun, NotOpened, OwnStep, StayOpen, session_after};
-ghost use Rattle.lab_top.specs.Ran.{Outside, Ran};
+ghost use Rattle.lab_core.specs.Tells.{AllMove, Hinders, IsFeasibleFor, busy_of, is_of_drill, opens_of, taken_reply};
+ghost use Rattle.lab_top.specs.Pieces.{AreOthers, Begun, NotOpened, OwnStep, StayOpen, session_after, traces_after};
+ghost use Rattle.lab_top.specs.Ran.{Outside, Ran, behind_in, from_in};
 ghost use Rattle.lab_top.specs.declared.status.Status.{Status};
 ghost use Rattle.lab_words.specs.Words.{Choices};
 
 use swap_mgr::MAX_OPEN;
 
 /// A run over every plant, one that tells nothing of its past too: between two openings the replies are those of an abstract lab.
-/// The own part of a command that is no drill is a lab step of an open session, unless its opening broke off; and in the lab from which it goes the
-/// experiment of each open swap moves.
-/// A supplied solution is swapped in, or its swap begins where `open` stands before the command, exactly where it is feasible in that lab; else the
-/// reply tells what hindered it. A command that is no drill has no reply of a drill.
+/// The labs are those that the run hands on: a command that finds the session open goes from the lab that the one before it left.
+/// The own part of a command that is no drill is a lab step of an open session between its two labs, unless its opening broke off; and in the lab from
+/// which it goes the experiment of each open swap moves.
+/// Unless its opening broke off, a supplied solution is swapped in, or its swap begins where `open` stands before the command, exactly where it is
+/// feasible in the lab from which the command goes; else the reply tells what hindered it. A command that is no drill has no reply of a drill.
 /// Commands about other experiments, each of which leaves the session open, leave an experiment's open swap as it is. No more than sixteen swaps are
 /// open, and no two of one name.
 pub fn every_plant()
     ensures steps { (terms : Terms) (choices : Option Choices) (old new : Outside) (status : Status) (before after : List Begun) (b : Begun)
-        → Ran terms choices old new status (before ++ b ∷ after) → drill_of b.piece.command ≡ None
-        → NotOpened b.piece ⊎ ((trace : Option (List Event)) × (mid : LabState) × (last : LabState) × OwnStep terms trace b.piece mid last
-        × AllMove (opens_of b.piece.from) mid) }
+        → (r : Ran terms choices old new status (before ++ b ∷ after)) → drill_of b.piece.command ≡ None
+        → NotOpened b.piece ⊎ (OwnStep terms (with_more (traces_after (trace_in old.plant.told) before) b.piece.opening) b.piece
+        (from_in before after b r) (behind_in before after b r) × AllMove (opens_of b.piece.from) (from_in before after b r)) }
     ensures solutions { (terms : Terms) (choices : Option Choices) (old new : Outside) (status : Status) (before after : List Begun) (b : Begun)
         (only_begin : Bool) (exp text : List ℕ) (lines : ℕ) (reply : Reply)
-        → Ran terms choices old new status (before ++ b ∷ after) → b.piece.command ≡ SwapinWith only_begin exp lines text → b.piece.reply ≡ Some reply
-        → TellsBroken reply ⊎ ((mid : LabState) × (reply ≡ taken_reply only_begin exp → IsFeasibleFor mid exp text)
-        × (IsFeasibleFor mid exp text → (reply ≡ taken_reply only_begin exp) ⊎ Hinders reply)) }
+        → (r : Ran terms choices old new status (before ++ b ∷ after)) → b.piece.command ≡ SwapinWith only_begin exp lines text → b.piece.reply ≡ Some reply
+        → NotOpened b.piece ⊎ ((reply ≡ taken_reply only_begin exp → IsFeasibleFor (from_in before after b r) exp text)
+        × (IsFeasibleFor (from_in before after b r) exp text → (reply ≡ taken_reply only_begin exp) ⊎ Hinders reply)) }
     ensures undrilled { (terms : Terms) (choices : Option Choices) (old new : Outside) (status : Status) (before after : List Begun) (b : Begun)
         (reply : Reply)
         → Ran terms choices old new status (before ++ b ∷ after) → drill_of b.piece.command ≡ None → b.piece.reply ≡ Some reply → is_of_drill reply ≡ false }

@@ -1,6 +1,7 @@
 use Rattle.std.proofs.Common.{arith, [], None, sym, ◌∙◌, ◌≡◌, Some, Err}
 use Rattle.lab_base.proofs.Numbers.{Rose_since}
-use Rattle.lab_top.proofs.Obeyed.{closed_from, ends_open, ends_opened, ends_unopened, goes_closed, halts_if, later_same, may_open, rose_same, runs_if}
+use Rattle.lab_top.proofs.HandedOn.{closed_from, ends_open, ends_opened, ends_unopened, may_open}
+use Rattle.lab_top.proofs.Obeyed.{goes_closed, halts_if, later_same, rose_same, runs_if}
 use Rattle.lab_top.proofs.command.obey.Goals as goal
 
 pub obey_open-requires-clause-open : goal.obey_open-requires-clause-open
