@@ -14,11 +14,11 @@ use Rattle.lab_core.specs.Auditing.{Audits, no_lab, told, unread, no_memory}
 use Rattle.lab_core.specs.LabSteps.{StepOf, opened, not_opened}
 use Rattle.lab_core.specs.Moments.{with_more}
 use Rattle.lab_core.specs.Sessions.{OpenSwap, Session, Setting, After, Closed, Open, Terms}
-use Rattle.lab_core.specs.Tells.{AllMove, IsAtRest, TellsPlace, of_drill_if, opens_of}
-use Rattle.lab_core.proofs.OuterReplies.{breaks_so}
+use Rattle.lab_core.specs.Tells.{AllMove, IsAtRest, opens_of}
+use Rattle.lab_core.proofs.OuterReplies.{breaks_so, of_drill_if}
 use Rattle.lab_core.proofs.OuterSteps.{CommandTells, plain, still_as, tell_behind, unread as unread_so}
 use Rattle.lab_core.proofs.Others.{Stays, both_stay, same_stays}
-use Rattle.lab_core.proofs.Places.{breaks_place, place_as}
+use Rattle.lab_core.proofs.Places.{breaks_place, place_as, TellsPlace}
 use Rattle.lab_core.proofs.StepLaws.{begins_stay, broke, step_stays, step_stops}
 use Rattle.lab_core.proofs.Sessions.{not_shut}
 

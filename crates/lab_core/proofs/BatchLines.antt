@@ -32,9 +32,9 @@ use Rattle.lab_core.specs.Commands.{LabStep, ground_by}
 use Rattle.lab_core.specs.LabSteps.{IsDoneBy, does, has_space, no_memory, not_opened, opened}
 use Rattle.lab_core.specs.Lists.{DoesList, Ground, Lists, Past, broken, last_reply, listed, more, no_memory as list_no_memory, none, over, refused as list_refused, set_at, wanting}
 use Rattle.lab_core.specs.Sessions.{After, Closed, Open, OpenSwap, Session, Setting, Terms, names_of, open_by, shut_by}
-use Rattle.lab_core.specs.Tells.{IsThere, TellsPlace, is_in}
+use Rattle.lab_core.specs.Tells.{IsThere, is_in}
 use Rattle.lab_core.proofs.Others.{Stays}
-use Rattle.lab_core.proofs.Places.{does_place}
+use Rattle.lab_core.proofs.Places.{does_place, TellsPlace}
 use Rattle.lab_core.proofs.Runs.{batch_first, batch_refuses, run_here, stand_in}
 use Rattle.lab_core.proofs.StepLaws.{does_stays}
 use Rattle.lab_core.proofs.TasksApart.{task_apart}

@@ -27,10 +27,11 @@ use Rattle.lab_judge.specs.Judge.{Task, Recover}
 use Rattle.lab_core.specs.LabSteps.{IsDoneBy}
 use Rattle.lab_core.specs.Moments.{IsLengthAt, IsLengthBehind, trace_in}
 use Rattle.lab_core.specs.Obey.{AllShut, AnswersBy, EndsBy, Obeys, Shuts, Start, start_of, Obeyed, WantsIn, done_as, reply_of, stays_at_work, undone, between as recovering}
-use Rattle.lab_core.specs.Sessions.{OpenSwap, Closed, After, Setting, AreOpenedBy, WereOpen, blames_now, counted_from, ends_swap, name_in, open_by, shut_by}
+use Rattle.lab_core.specs.Sessions.{OpenSwap, Closed, After, Setting, AreOpenedBy, blames_now, counted_from, ends_swap, name_in, open_by, shut_by}
 use Rattle.lab_core.specs.Lists.{DoesNext, Listing, Past, broken, last_reply, more, none, over}
-use Rattle.lab_core.specs.Coming.{AllDone, AllWants, HasComeTo, Origin, TellsAll, ground_of}
+use Rattle.lab_core.specs.Coming.{AllDone, AllWants, Origin, ground_of}
 use Rattle.lab_core.proofs.Obey.{calm_ends, in_trace, of_trace, shut_ends, trace_back, IsDone, Leaves, Answers, ObeyEnds}
+use Rattle.lab_core.proofs.HowFar.{HasComeTo, TellsAll, WereOpen}
 
 -- THE LENGTH as the sides read, of a controller that stands
 pub standing_length : (trace : List Event) (c : Control) → Stands the_texts trace c.journal c.lab → IsLengthAt trace (length_of c.journal)

@@ -14,16 +14,17 @@ use Rattle.script_text.specs.declared.reply.Reply.{Reply}
 use Rattle.script_text.specs.declared.reply.Reply.TheVariants as replies
 use Rattle.lab_core.specs.declared.fault.CoreFault.{CoreFault}
 use Rattle.lab_core.specs.declared.fault.CoreFault.TheVariants as faults
-use Rattle.lab_core.specs.Coming.{HasComeTo, Origin, TellsAll}
+use Rattle.lab_core.specs.Coming.{Origin}
 use Rattle.lab_core.specs.Controller.{CanWork, Control, WorksWith}
-use Rattle.lab_core.specs.InTurn.{ComesTo, EndsEvent, IsPart, ObeysEvent, ObeysEvents, TellsWhole, is_in, origin_of, stuck_by_journal}
+use Rattle.lab_core.specs.InTurn.{EndsEvent, IsPart, ObeysEvent, ObeysEvents, TellsWhole, is_in, origin_of, stuck_by_journal}
 use Rattle.lab_judge.specs.Judge.{Recover}
 use Rattle.lab_core.specs.Obey.{Obeyed}
 use Rattle.lab_core.specs.PlayList.{JudgedEvent, behind_event, events_in_turn}
 use Rattle.lab_judge.specs.Playing.{Playing, first_place}
-use Rattle.lab_core.specs.Sessions.{OpenSwap, WereOpen, blames_now, counted_from, devices_if, name_in, open_at}
+use Rattle.lab_core.specs.Sessions.{OpenSwap, blames_now, counted_from, devices_if, name_in, open_at}
 use Rattle.lab_core.proofs.Composing.{begins, comes_on, comes_shut, comes_to_stop, comes_to_want, finished, wants}
 use Rattle.lab_core.proofs.Events.{event_fits}
+use Rattle.lab_core.proofs.HowFar.{HasComeTo, TellsAll, ComesTo, WereOpen}
 
 -- ---- HOW AN EVENT ENDED
 pub fault_ends : (exp : List ℕ) (played : ℕ) (Leaves : Result Reply CoreFault → Type 0) (fault : CoreFault) → Leaves (Err fault) → EndsEvent exp played Leaves (Err fault)

@@ -2,6 +2,7 @@ pub mod Audited
 mod Compacting
 pub mod Composing
 mod EndOne
+mod HowFar
 mod InTurn
 mod Keeping
 mod ListCommands
@@ -37,10 +38,10 @@ mod OpenMoves
 pub mod Openings
 pub mod OtherWorlds
 pub mod Others
-mod OuterReplies
+pub mod OuterReplies
 pub mod OuterSteps
 mod Parts
-mod Places
+pub mod Places
 pub mod PlayTells
 mod Refusals
 pub mod Rested

@@ -32,19 +32,19 @@ use Rattle.lab_judge.specs.Serving.{JudgedBatch, Serving}
 use Rattle.lab_core.specs.BatchList.{has_run, is_run_of, runs_in_turn}
 use Rattle.lab_core.specs.Sessions.{OpenSwap, Session, Setting, After, Closed, Open, Terms, name_in, names_of}
 use Rattle.lab_judge.specs.OpenNames.{name_of}
-use Rattle.lab_core.specs.Tells.{AllMove, IsAtRest, TellsPlace, busy_of, is_of_drill, of_drill_if, opens_of, settles}
+use Rattle.lab_core.specs.Tells.{AllMove, IsAtRest, busy_of, is_of_drill, opens_of, settles}
 use Rattle.lab_core.proofs.Audited.{audit_moves, audit_no_drill, audit_opens, audit_place, audit_stays, audit_stops}
 use Rattle.lab_core.proofs.Events.{events_are, plays_refuse}
 use Rattle.lab_judge.proofs.Fits.{is_outer}
 use Rattle.lab_core.proofs.Listings.{IsAboutThese, lists_stay, others_stay, past_stays, same_open, stops}
 use Rattle.lab_core.proofs.Runs.{AreOf, batch_first, batch_refuses, runs_are}
-use Rattle.lab_core.proofs.OuterReplies.{breaks_so, no_drill_of, step_so}
+use Rattle.lab_core.proofs.OuterReplies.{breaks_so, no_drill_of, step_so, of_drill_if}
 use Rattle.lab_core.proofs.OuterSteps.{CommandTells, Tells, no_step_of, plain, still_as, tell_behind, tells_step}
 use Rattle.lab_core.proofs.Others.{Stays, both_stay, same_stays}
 use Rattle.lab_core.proofs.OpenLaws.{Leaves, leaves}
 use Rattle.lab_judge.proofs.Busy.{has_busy}
 use Rattle.lab_core.proofs.OpenMoves.{moves_on, set_by, step_moves}
-use Rattle.lab_core.proofs.Places.{breaks_place, no_place, place_as, step_place}
+use Rattle.lab_core.proofs.Places.{breaks_place, no_place, place_as, step_place, TellsPlace}
 use Rattle.lab_core.proofs.StepLaws.{begins_stay, broke, by_one, drills_leave, step_stays, step_stops, was}
 use Rattle.lab_core.proofs.Sessions.{not_shut}
 use Rattle.lab_core.specs.Moments.{with_more}

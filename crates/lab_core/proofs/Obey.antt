@@ -31,8 +31,9 @@ use Rattle.lab_core.specs.Moments.{trace_in}
 use Rattle.lab_core.specs.Obey.{Start, start_of, AllShut, AnswersBy, EndsBy, Obeyed, Shuts, ToldBy, WantsIn, done_as, undone, between, wants_as}
 use Rattle.lab_core.specs.Recovery.{broken_off, some}
 use Rattle.lab_core.specs.Breaks.{unanswered}
-use Rattle.lab_core.specs.Sessions.{After, Closed, Open, OpenSwap, Session, Setting, AreOpenedBy, WereOpen, blames_now, counted_from, ends_swap, name_in}
+use Rattle.lab_core.specs.Sessions.{After, Closed, Open, OpenSwap, Session, Setting, AreOpenedBy, blames_now, counted_from, ends_swap, name_in}
 use Rattle.lab_judge.specs.Tasks.{tells_end, IsMild}
+use Rattle.lab_core.proofs.HowFar.{WereOpen}
 
 -- OF WHAT WAS JUDGED: it is done, with that reply; and how it ends
 abbrev pub IsDone : (Result Task Reply → Type 0) → Start → List Event → Option Reply → LabState → Session → Type 0

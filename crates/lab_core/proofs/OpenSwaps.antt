@@ -21,8 +21,9 @@ use Rattle.journal_disk.specs.declared.fault.OpenFault.{OpenFault}
 use Rattle.lab_core.specs.Controller.{Control, Works, WorksWith}
 use Rattle.lab_core.specs.LabSteps.{turned_on}
 use Rattle.script_text.specs.declared.reply.Reply.TheVariants as replies
-use Rattle.lab_core.specs.Sessions.{OpenSwap, IsSince, HasRisenBy, name_in, open_at, AreOpenedBy, WasOpen, WereOpen}
+use Rattle.lab_core.specs.Sessions.{OpenSwap, IsSince, HasRisenBy, name_in, open_at, AreOpenedBy, WasOpen}
 use Rattle.std.specs.Prelude.{IfOk}
+use Rattle.lab_core.proofs.HowFar.{WereOpen}
 
 abbrev pub Pair : Type 0
 Pair = RunningSwap × Live

@@ -20,7 +20,12 @@ use Rattle.lab_core.specs.Recovery.{Recovers, settled, broken_off}
 use Rattle.lab_core.specs.Sessions.{OpenSwap, Session, Closed, Open, Setting, After, names_of, Terms}
 use Rattle.lab_judge.specs.OpenNames.{is_among, name_of}
 use Rattle.lab_judge.proofs.Fits.{IsFit, fits, is_outer}
-use Rattle.lab_core.specs.Tells.{is_of_drill, of_drill_if}
+use Rattle.lab_core.specs.Tells.{is_of_drill}
+
+-- the reply is that to a drill, if there is one
+abbrev pub of_drill_if : Option Reply → Bool
+of_drill_if None = false
+of_drill_if (Some reply) = is_of_drill reply
 
 pub no_drill_of : (reply : Reply) → is_outer reply ≡ false → is_of_drill reply ≡ false
 no_drill_of replies.Planned free = absurd (cc free)

@@ -38,9 +38,10 @@ use Rattle.lab_core.specs.Controller.{Control, WorksWith}
 use Rattle.lab_judge.specs.Judge.{Task}
 use Rattle.lab_core.specs.LabSteps.{done_reply, end_session, turn_reply, undone_end}
 use Rattle.lab_core.specs.Obey.{start_of, Obeyed}
-use Rattle.lab_core.specs.Sessions.{OpenSwap, Session, Closed, Open, HasRisenBy, WereOpen, blames_now, counted_from, ends_swap, name_in}
+use Rattle.lab_core.specs.Sessions.{OpenSwap, Session, Closed, Open, HasRisenBy, blames_now, counted_from, ends_swap, name_in}
 use Rattle.lab_core.proofs.Obey.{as_open, closed_by, false_true, goes_on, halted, now_blames, IsDone}
 use Rattle.lab_core.proofs.Told.{IsAnswer, Halts}
+use Rattle.lab_core.proofs.HowFar.{WereOpen}
 
 -- replies that blame no device, and those that leave the controller open
 done_mild : (exp : List ℕ) (o : Option Mapped) → (closes (done_reply exp o) ≡ false) × (blames_device (done_reply exp o) ≡ false)

@@ -18,6 +18,7 @@ use Rattle.script_text.specs.Drills.{drill_of}
 use Rattle.script_text.specs.declared.command.Command.{Command}
 use Rattle.script_text.specs.declared.reply.Reply.{Reply}
 use Rattle.script_text.specs.declared.reply.Reply.TheVariants as replies
+use Rattle.script_text.specs.declared.reply.FailedEnd.TheVariants as ends
 use Rattle.swap_txn.specs.Troubles.{what_of}
 use Rattle.swap_turns.specs.Finishing.{Finishes}
 use Rattle.swap_turns.specs.Legs.{Forth, Undo, Settling}
@@ -31,10 +32,18 @@ use Rattle.lab_core.specs.LabSteps.{DoesBy, JudgedBeside, StepOf, Replies, Appen
 use Rattle.lab_core.specs.Recovery.{Recovers, settled, broken_off}
 use Rattle.lab_core.specs.Sessions.{OpenSwap, Session, Setting, After, Terms, names_of}
 use Rattle.lab_judge.specs.OpenNames.{is_among, name_of}
-use Rattle.lab_core.specs.Tells.{IsThere, TellsPlace, is_in}
+use Rattle.lab_core.specs.Tells.{IsThere, is_in}
 use Rattle.lab_judge.proofs.Fits.{IsFit, fits, is_outer}
 use Rattle.lab_core.proofs.StepLaws.{Was, by_one, was, done, wanting, broke, drilled}
 use Rattle.swap_turns.proofs.Finishing.{onward_swap}
+
+-- WHERE A REPLY TELLS THAT AN EXPERIMENT IS, in or out, there it is in the lab after it
+abbrev pub TellsPlace : Reply → LabState → Type 0
+TellsPlace (replies.In exp) after = IsThere is_in after exp
+TellsPlace (replies.Out exp) after = IsThere is_out after exp
+TellsPlace (replies.Failed exp ends.In what) after = IsThere is_in after exp
+TellsPlace (replies.Failed exp ends.Out what) after = IsThere is_out after exp
+TellsPlace reply after = Unit {0}
 
 -- no reply but those to a swap tells it
 pub no_place : (u : LabState) (reply : Reply) → is_outer reply ≡ false → TellsPlace reply u

@@ -29,10 +29,10 @@ use Rattle.lab_core.specs.Lists.{DoesList, Ground, Lists, Past, broken, last_rep
 use Rattle.lab_core.specs.PlayList.{JudgedNext, JudgedPlay, behind_event, events_in_turn, none_left}
 use Rattle.lab_core.specs.PlayTells.{PlayTells, TellsEnded}
 use Rattle.lab_core.specs.Sessions.{After, Closed, Open, OpenSwap, Session, Setting, Terms, names_of, open_by, shut_by}
-use Rattle.lab_core.specs.Tells.{IsThere, TellsPlace, is_in, is_of_steps}
+use Rattle.lab_core.specs.Tells.{IsThere, is_in, is_of_steps}
 use Rattle.lab_core.proofs.Events.{FitsPlain, event_fits, plays_first, refuse_so, stand_in}
 use Rattle.lab_core.proofs.BatchLines.{last_tells, line_so}
-use Rattle.lab_core.proofs.Places.{does_place}
+use Rattle.lab_core.proofs.Places.{does_place, TellsPlace}
 use Rattle.lab_core.proofs.Refusals.{IsMade, does_idle}
 use Rattle.lab_core.specs.Moments.{with_more}
 

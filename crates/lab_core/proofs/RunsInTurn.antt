@@ -20,13 +20,13 @@ use Rattle.script_text.proofs.ToldRuns.{any_more}
 use Rattle.lab_core.specs.declared.fault.CoreFault.{CoreFault}
 use Rattle.lab_core.specs.declared.fault.CoreFault.TheVariants as faults
 use Rattle.lab_judge.specs.declared.run.Queue.{Queue}
-use Rattle.lab_core.specs.Coming.{HasComeTo, Origin, TellsAll}
+use Rattle.lab_core.specs.Coming.{Origin}
 use Rattle.lab_core.specs.Controller.{CanWork, Control, WorksWith}
 use Rattle.lab_core.specs.InTurn.{IsPart, is_in}
 use Rattle.lab_judge.specs.Judge.{Recover}
 use Rattle.lab_core.specs.LabSteps.{has_space}
 use Rattle.lab_core.specs.Obey.{Obeyed, start_of}
-use Rattle.lab_core.specs.Queues.{ComesToRun, EndsRun, ObeysRun, ObeysRuns, ends_if, first_place, runs_from}
+use Rattle.lab_core.specs.Queues.{EndsRun, ObeysRun, ObeysRuns, ends_if, first_place, runs_from}
 use Rattle.lab_core.specs.BatchList.{JudgedRun, behind_run, runs_in_turn, with_end}
 use Rattle.lab_judge.specs.Serving.{Serving}
 use Rattle.lab_core.specs.Sessions.{OpenSwap, counted_from, devices_if, name_in, names_of, open_at}
@@ -34,6 +34,7 @@ use Rattle.lab_core.proofs.Composing.{begins, comes_on, comes_shut, comes_to_sto
 use Rattle.lab_judge.proofs.Busy.{has_busy}
 use Rattle.lab_core.proofs.OpenSwaps.{open_at_none}
 use Rattle.lab_core.proofs.Runs.{run_here}
+use Rattle.lab_core.proofs.HowFar.{HasComeTo, TellsAll, ComesToRun}
 
 -- ---- WHAT THE WHOLE TELLS
 any_either : (test : Reply → Bool) (told : List Reply) (reply : Reply) → list_any test (told ++ reply ∷ []) ≡ true → (list_any test told ≡ true) ⊎ (test reply ≡ true)

@@ -1,19 +1,10 @@
--- HOW FAR A LIST OF COMMANDS CAME, of what is seen of a plant.
-use Rattle.std.specs.Prelude.{◌≡◌, ◌⊎◌, ◌≤◌, ℕ, true, false, List, ◌++◌, Option, IfSome}
-use Rattle.lab_base.specs.Counts.{Rose}
-use Rattle.plant.specs.Events.{Event}
+-- A LIST OF COMMANDS from where it began, of what is seen of a plant.
+use Rattle.std.specs.Prelude.{ℕ, List}
 use Rattle.plant.specs.Seen.{Seen}
-use Rattle.plant.specs.Told.{with_steps}
-use Rattle.records_model.specs.Works.{IsSound}
-use Rattle.lab_state.specs.Texts.{the_texts}
 use Rattle.journal_disk.specs.Standing.{limit_of}
-use Rattle.script_text.specs.Replies.{blames_device, closes}
-use Rattle.script_text.specs.declared.reply.Reply.{Reply}
-use Rattle.lab_core.specs.Controller.{Control, WorksWith}
-use Rattle.lab_core.specs.Sessions.{OpenSwap, WereOpen, blames_now, counted_from}
-use Rattle.lab_judge.specs.Tasks.{tells_end}
+use Rattle.lab_core.specs.Controller.{Control}
+use Rattle.lab_core.specs.Sessions.{OpenSwap}
 use Rattle.lab_core.specs.Lists.{Listing, Lists, Ground, Past}
-use Rattle.lab_core.specs.Moments.{trace_in}
 use Rattle.lab_core.specs.Obey.{Doing, Wanting}
 
 -- where a list began: what was seen of the plant, the controller with its open swaps, the place, and the count at which its swaps are opened
@@ -33,26 +24,3 @@ AllDone l o trace own after = Lists l (ground_of o) trace o.start o.old.lab o.op
 
 abbrev pub AllWants : {X : Type 0} → Listing X → Origin X → Wanting
 AllWants {X} l o trace own lab to = (at : X) × Past l (ground_of o) trace o.start o.old.lab o.opens own at lab to
-
--- IT CAME TO THIS PLACE, and the controller works on with these open swaps, each of which was open before
-pub record HasComeTo {X : Type 0} (l : Listing X) (o : Origin X) (exp : Option (List ℕ)) (now : Seen) (new : Control) (at : X) : Type 0 where
-  pub to : List OpenSwap
-  pub own : List Event
-  pub told : now.told ≡ with_steps o.before.told own
-  pub past : Past l (ground_of o) (trace_in o.before.told) o.start o.old.lab o.opens own at new.lab to
-  pub sound : IfSome o.before.told (λ t. IsSound the_texts t.trace → IsSound the_texts (t.trace ++ own))
-  pub works : WorksWith now new to
-  pub limit : limit_of new.journal ≡ limit_of o.old.journal
-  pub opened : WereOpen o.opens to
-  pub device : blames_device (l.whole at) ≡ true → Rose (counted_from o.opens exp o.devices) now.faults.devices
-  pub here : blames_now (l.whole at) ≡ true → Rose o.before.faults.devices now.faults.devices
-  pub disk : o.before.faults.disk ≤ now.faults.disk
-  pub devices : o.before.faults.devices ≤ now.faults.devices
-  pub runs : o.before.stopped ≡ false → now.stopped ≡ false
-
--- the whole reply blames a device only where it did before or the new reply does, closes where the last reply does, and tells of no swap that has ended
-pub record TellsAll {X : Type 0} (l : Listing X) : Type 0 where
-  pub blames : (at : X) (reply : Reply) → blames_device (l.whole (l.behind at reply)) ≡ true → (blames_device (l.whole at) ≡ true) ⊎ (blames_device reply ≡ true)
-  pub here : (at : X) (reply : Reply) → blames_now (l.whole (l.behind at reply)) ≡ true → (blames_now (l.whole at) ≡ true) ⊎ (blames_device reply ≡ true)
-  pub shuts : (at : X) (reply : Reply) → closes reply ≡ true → closes (l.whole (l.behind at reply)) ≡ true
-  pub ends : (at : X) → tells_end (l.whole at) ≡ false

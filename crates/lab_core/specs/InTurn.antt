@@ -11,12 +11,12 @@ use Rattle.script_text.specs.declared.reply.Reply.{Reply}
 use Rattle.script_text.specs.declared.reply.Reply.TheVariants as replies
 use Rattle.lab_core.specs.declared.fault.CoreFault.{CoreFault}
 use Rattle.lab_core.specs.declared.fault.CoreFault.TheVariants as faults
-use Rattle.lab_core.specs.Coming.{AllDone, AllWants, HasComeTo, Origin}
+use Rattle.lab_core.specs.Coming.{AllDone, AllWants, Origin}
 use Rattle.lab_core.specs.Controller.{Control, WorksWith}
 use Rattle.lab_core.specs.Obey.{Obeyed, Obeys}
 use Rattle.lab_core.specs.PlayList.{JudgedEvent, events_in_turn}
 use Rattle.lab_judge.specs.Playing.{Playing}
-use Rattle.lab_core.specs.Sessions.{OpenSwap, open_at}
+use Rattle.lab_core.specs.Sessions.{OpenSwap}
 
 -- THE REPLY TO AN EVENT lets the next one come; begins no swap that stays open, and closes the controller only where the last record can't be written
 abbrev pub is_in : Reply → Bool
@@ -49,14 +49,9 @@ EndsEvent exp played Leaves (Ok (Some whole)) = (reply : Reply) × (is_in reply 
 EndsEvent exp played Leaves (Err faults.Stopped) = Leaves (Err faults.Stopped)
 EndsEvent exp played Leaves (Err faults.Memory) = Leaves (Err faults.Memory) ⊎ ((reply : Reply) × (closes reply ≡ false) × IsPart exp reply × Leaves (Ok reply))
 
--- HOW FAR THEY CAME, with any swaps open but the experiment's
+-- where they begin, with any swaps open but the experiment's
 abbrev pub origin_of : Seen → Control → List OpenSwap → Playing → ℕ → Origin Playing
 origin_of before old opens start devices = record { before = before; old = old; opens = opens; start = start; devices = devices }
-
-abbrev pub ComesTo : List ℕ → Playing → Seen → Seen → Control → Control → Playing → Type 0
-ComesTo exp start before now old new at =
-    (opens : List OpenSwap) (devices : ℕ) → devices ≤ before.faults.devices → WorksWith before old opens → open_at exp opens ≡ None
-    → HasComeTo (events_in_turn exp) (origin_of before old opens start devices) (Some exp) now new at
 
 -- ALL OF THEM, from that place
 abbrev pub ObeysEvents : List ℕ → Playing → ℕ → Seen → Seen → Control → Control → List OpenSwap → Result Reply CoreFault → Type 0

@@ -12,7 +12,7 @@ use Rattle.script_text.specs.declared.reply.Served.{Served}
 use Rattle.lab_core.specs.declared.fault.CoreFault.{CoreFault}
 use Rattle.lab_core.specs.declared.fault.CoreFault.TheVariants as faults
 use Rattle.lab_judge.specs.declared.run.Queue.{Queue}
-use Rattle.lab_core.specs.Coming.{AllDone, AllWants, HasComeTo, Origin}
+use Rattle.lab_core.specs.Coming.{AllDone, AllWants, Origin}
 use Rattle.lab_core.specs.Controller.{Control, WorksWith}
 use Rattle.lab_core.specs.InTurn.{IsPart, is_in}
 use Rattle.lab_core.specs.LabSteps.{has_space}
@@ -48,13 +48,9 @@ EndsRun so_far exp Leaves (Ok next) = (reply : Reply) × IsPart exp reply × (ne
 EndsRun so_far exp Leaves (Err faults.Stopped) = Leaves (Err faults.Stopped)
 EndsRun so_far exp Leaves (Err faults.Memory) = Leaves (Err faults.Memory) ⊎ ((reply : Reply) × (closes reply ≡ false) × IsPart exp reply × Leaves (Ok reply))
 
--- HOW FAR THE RUNS CAME, with any swaps open
+-- where they begin, with any swaps open
 abbrev pub runs_from : Seen → Control → List OpenSwap → Serving → ℕ → Origin Serving
 runs_from before old opens start devices = record { before = before; old = old; opens = opens; start = start; devices = devices }
-
-abbrev pub ComesToRun : RuleNumber → ℕ → Serving → Seen → Seen → Control → Control → Serving → Type 0
-ComesToRun rule moment start before now old new at =
-    (opens : List OpenSwap) (devices : ℕ) → devices ≤ before.faults.devices → WorksWith before old opens → HasComeTo (runs_in_turn rule moment) (runs_from before old opens start devices) None now new at
 
 -- ALL OF THEM, from that place
 abbrev pub ObeysRuns : RuleNumber → ℕ → Serving → ℕ → Seen → Seen → Control → Control → List OpenSwap → Result Reply CoreFault → Type 0

@@ -47,9 +47,6 @@ counted_from opens (Some exp) count = devices_if (open_at exp opens) count
 abbrev pub WasOpen : List OpenSwap → OpenSwap → Type 0
 WasOpen old o = (q : OpenSwap) × Has old q × (name_in q ≡ name_in o) × (q.devices ≡ o.devices)
 
-abbrev pub WereOpen : List OpenSwap → List OpenSwap → Type 0
-WereOpen old new = (o : OpenSwap) → Has new o → WasOpen old o
-
 -- the reply tells that the swap of the name has ended. Where the journal is why, the reply closes the controller, and no swap is open behind it.
 abbrev pub ends_swap : Option Reply → List ℕ → Bool
 ends_swap None name = false

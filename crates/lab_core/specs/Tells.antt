@@ -1,5 +1,5 @@
 -- The lab that the reply to a swap tells, the steps of a turn, and those whom a command settles.
-use Rattle.std.specs.Prelude.{◌≡◌, ℕ, Bool, true, false, not, is_none, List, [], ◌∷◌, ◌++◌, ◌⊎◌, Option, Some, None, Result, Ok}
+use Rattle.std.specs.Prelude.{◌≡◌, ℕ, Bool, true, false, not, is_none, List, [], ◌∷◌, ◌++◌, ◌⊎◌, Some, None, Result, Ok}
 use Rattle.std.specs.List.{list_any}
 use Rattle.lab_base.specs.Lists.{Has}
 use Rattle.lab_base.specs.declared.ids.VlanId.{VlanId}
@@ -20,7 +20,7 @@ use Rattle.plant.specs.declared.device.Answer.{Answer}
 use Rattle.plant.specs.declared.device.DeviceOp.{DeviceOp}
 use Rattle.plant.specs.declared.device.Fault.{Fault}
 use Rattle.plant.specs.declared.step.Side.{Side}
-use Rattle.records_model.specs.Labs.{LabState, Move, Commits, Aborts, find, is_out, moved, others}
+use Rattle.records_model.specs.Labs.{LabState, Move, Commits, Aborts, find, moved, others}
 use Rattle.recovery.specs.Due.{is_busy}
 use Rattle.solution_text.specs.Solutions.{mapping_of_text}
 use Rattle.swap_turns.specs.Swaps.{Swap as SwapOf, Moves}
@@ -155,14 +155,6 @@ pub record IsThere (is : Phase → Bool) (s : LabState) (exp : List ℕ) : Type 
   pub found : find exp s.experiments ≡ Some experiment
   pub is_so : is experiment.phase ≡ true
 
--- WHERE A REPLY TELLS THAT AN EXPERIMENT IS, in or out, there it is in the lab after it
-abbrev pub TellsPlace : Reply → LabState → Type 0
-TellsPlace (In exp) after = IsThere is_in after exp
-TellsPlace (IsOutside exp) after = IsThere is_out after exp
-TellsPlace (Failed exp ends.In what) after = IsThere is_in after exp
-TellsPlace (Failed exp ends.Out what) after = IsThere is_out after exp
-TellsPlace reply after = Unit {0}
-
 -- the plant stopped
 abbrev pub is_stopped : Reply → Bool
 is_stopped Stopped = true
@@ -191,10 +183,6 @@ abbrev pub is_of_drill : Reply → Bool
 is_of_drill Planned = true
 is_of_drill NoDrill = true
 is_of_drill reply = false
-
-abbrev pub of_drill_if : Option Reply → Bool
-of_drill_if None = false
-of_drill_if (Some reply) = is_of_drill reply
 
 -- A SOLUTION CAN BE SWAPPED IN: the experiment is there and out, the text has a mapping, and that keeps all rules on what the other experiments leave free
 pub record IsFeasibleFor (s : LabState) (exp text : List ℕ) : Type 0 where

@@ -25,7 +25,7 @@ use Rattle.plant.specs.declared.drill.Drill.{Drill}
 use Rattle.script_text.specs.Drills.{drill_of}
 use Rattle.script_text.specs.Replies.{closes}
 use Rattle.script_text.specs.declared.reply.Served.{Served}
-use Rattle.lab_core.specs.Tells.{IsAtRest, IsInBy, IsThere, TellsPlace, is_in, is_of_drill}
+use Rattle.lab_core.specs.Tells.{IsAtRest, IsInBy, IsThere, is_in, is_of_drill}
 use Rattle.lab_core.proofs.ListSteps.{all_place}
 use Rattle.lab_core.proofs.Rested.{opened_rest}
 use Rattle.lab_core.proofs.Said.{as_said}
@@ -44,6 +44,7 @@ use Rattle.lab_core.proofs.BySolution.{in_by}
 use Rattle.lab_top.proofs.Pieces.{trace-push}
 use Rattle.lab_top.specs.declared.status.Status.{Status}
 use Rattle.lab_top.proofs.RunLaws.{at_rest, behind, caused_at, done, left_open, piece, pieces_keep, pieces_of, told_of, traces_join}
+use Rattle.lab_core.proofs.Places.{TellsPlace}
 
 -- what is in doesn't move, and what is out doesn't
 abbrev pub Rests : (Phase → Bool) → Type 0

@@ -14,8 +14,11 @@ use Rattle.script_text.specs.Commands.{Lines, Found, next_of, Ending, AtEnd, Bad
 use Rattle.script_text.specs.Taking.{known, Reads, IsBad, IsUnfinished, IsWithin, NoFurther}
 use Rattle.script_text.proofs.Taken.{told_lines, known_behind, next_within, no_line, read_within}
 use Rattle.lab_top.specs.declared.status.Status.TheVariants as statuses
-use Rattle.lab_top.specs.Readers.{at_start}
 use Rattle.lab_top.specs.Ran.{AreFirst, AreFirstTo, BegunCommands, IsReadTo, IsTakenTo}
+
+-- where it stands before these bytes
+abbrev pub at_start : List ℕ → Stand
+at_start bytes = record { rest = Some bytes; ended = false; taken = 0; lines = 0 }
 
 -- BYTES THAT ARE KNOWN
 some_parts : (raw : List ℕ) (o : Option (List ℕ)) (bytes : List ℕ) → Some bytes ≡ prepend_known raw o → (rest : List ℕ) × (o ≡ Some rest) × (bytes ≡ raw ++ rest)

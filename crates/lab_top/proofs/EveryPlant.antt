@@ -15,7 +15,7 @@ use Rattle.lab_judge.specs.Judge.{Task}
 use Rattle.lab_core.specs.Commands.{LabStep, is_about}
 use Rattle.lab_core.specs.Moments.{trace_in, with_more}
 use Rattle.lab_core.specs.Sessions.{OpenSwap, Session, Closed, Open, Setting, After, names_of, open_at, Terms}
-use Rattle.lab_core.specs.Tells.{AllMove, Hinders, IsFeasibleFor, TellsBroken, busy_of, is_of_drill, of_drill_if, opens_of, taken_reply}
+use Rattle.lab_core.specs.Tells.{AllMove, Hinders, IsFeasibleFor, TellsBroken, busy_of, is_of_drill, opens_of, taken_reply}
 use Rattle.lab_core.proofs.ListSteps.{about_not, all_leave, all_move, all_no_drill}
 use Rattle.lab_core.proofs.OpenLaws.{Leaves, names_differ, others_as_they_were, they_are_few}
 use Rattle.lab_core.proofs.SolutionLaws.{in_open}
@@ -25,6 +25,7 @@ use Rattle.lab_top.specs.declared.status.Status.{Status}
 use Rattle.lab_words.specs.Words.{Choices}
 use Rattle.lab_top.proofs.RunLaws.{caused_at}
 use Rattle.lab_top.proofs.TurnLaws.{handed_behind, sessions_join}
+use Rattle.lab_core.proofs.OuterReplies.{of_drill_if}
 
 -- ONE PIECE
 module _ (terms : Terms) (trace : Option (List Event)) (piece : Piece) (mid last : LabState) (shut : stays_open piece.reply ≡ false → piece.to ≡ Closed) where

@@ -37,7 +37,7 @@ use Rattle.lab_core.specs.Commands.{is_about, LabStep}
 use Rattle.lab_core.specs.Moments.{IsLabAt, IsNoJournal, StandForLab, IsLabOfImage, AllStandFor}
 use Rattle.lab_core.specs.Recovery.{EndedIn, HasRecovered}
 use Rattle.lab_core.specs.Sessions.{Session, Closed, Open, Setting, After, Terms}
-use Rattle.lab_core.specs.Tells.{AllMove, BeginsAt, IsFeasibleFor, Hinders, IsAtRest, TellsBroken, busy_of, is_of_drill, of_drill_if, opens_of, settles, taken_reply}
+use Rattle.lab_core.specs.Tells.{AllMove, BeginsAt, IsFeasibleFor, Hinders, IsAtRest, TellsBroken, busy_of, is_of_drill, opens_of, settles, taken_reply}
 use Rattle.lab_core.proofs.ListSteps.{all_no_drill, all_stay, all_stop}
 use Rattle.lab_core.proofs.OuterSteps.{CommandTells, Tells, broken_tells, plain, still, tells_step}
 use Rattle.lab_core.proofs.OneJournal.{not_both, one_place}
@@ -54,6 +54,7 @@ use Rattle.lab_top.specs.declared.status.Status.TheVariants.{Memory, JournalBad}
 use Rattle.lab_top.proofs.BrokenOpenings.{breaks_as, breaks_not}
 use Rattle.lab_top.proofs.Pieces.{trace-push}
 use Rattle.lab_top.proofs.Stepping.{first_image}
+use Rattle.lab_core.proofs.OuterReplies.{of_drill_if}
 
 -- ONE OF THE PIECES
 pub piece_at : (terms : Terms) (trace : List Event) (before after : List Begun) (b : Begun) → ArePieces terms trace (before ++ b ∷ after) → IsPiece terms (trace_after trace before) b.piece

@@ -1,7 +1,6 @@
--- A reader that has read nothing, and where it stands.
-use Rattle.std.specs.Prelude.{◌≡◌, ℕ, false, List, [], Some, None}
+-- A reader that has read nothing.
+use Rattle.std.specs.Prelude.{◌≡◌, false, [], None}
 use Rattle.lab_io.specs.declared.reader.LineReader.{LineReader}
-use Rattle.lab_io.specs.Passed.{Stand}
 use Rattle.lab_io.specs.Taken.{pending_of, fault_of, ended_of, lines_of, taken_of}
 
 pub record IsNew (reader : LineReader) : Type 0 where
@@ -10,7 +9,3 @@ pub record IsNew (reader : LineReader) : Type 0 where
   pub ended : ended_of reader ≡ false
   pub lines : lines_of reader ≡ 0
   pub taken : taken_of reader ≡ 0
-
--- where it stands before these bytes
-abbrev pub at_start : List ℕ → Stand
-at_start bytes = record { rest = Some bytes; ended = false; taken = 0; lines = 0 }

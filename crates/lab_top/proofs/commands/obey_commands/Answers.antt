@@ -6,8 +6,7 @@ use Rattle.lab_io.proofs.Known.{prepend_known-nil}
 use Rattle.script_text.specs.declared.command.Command.{Command}
 use Rattle.lab_top.specs.declared.status.Status.TheVariants.{Done, ReadFault, WriteFault, BadScript, Memory, JournalBad}
 use Rattle.lab_top.specs.Pieces.{commands_of}
-use Rattle.lab_top.specs.Readers.{at_start}
-use Rattle.lab_top.proofs.Commanding.{Covers, covers_none, covers_more, bad_begun, all_begun, cut_begun, wanting_begun, one_read, one_wanting}
+use Rattle.lab_top.proofs.Commanding.{Covers, covers_none, covers_more, bad_begun, all_begun, cut_begun, wanting_begun, one_read, one_wanting, at_start}
 use Rattle.lab_top.proofs.Pieces.{begun_ran, commands-push, going_none, going_ends, going_more, going_cut, going_memory, going_bad}
 use Rattle.lab_top.proofs.Tellings.{took_more}
 use Rattle.lab_top.proofs.commands.obey_commands.Goals as goal

@@ -3,10 +3,9 @@ use Rattle.lab_io.specs.Passed.{IsReady, stand_of}
 use Rattle.lab_io.specs.Taken.{pending_of, taken_of}
 use Rattle.lab_top.specs.Answering.{Moment}
 use Rattle.lab_top.specs.Pieces.{Begun, commands_of}
-use Rattle.lab_top.specs.Readers.{at_start}
 use Rattle.lab_top.specs.Tellers.{Took, replies_of}
 use Rattle.lab_core.specs.Sessions.{terms_of}
-use Rattle.lab_top.proofs.Commanding.{Covers}
+use Rattle.lab_top.proofs.Commanding.{Covers, at_start}
 use Rattle.lab_top.proofs.Pieces.{Going}
 use Rattle.lab_top.proofs.commands.obey_commands.Given as goal
 

@@ -9,10 +9,11 @@ use Rattle.script_text.specs.declared.reply.Served.{Served}
 use Rattle.lab_core.specs.declared.fault.CoreFault.TheVariants as faults
 use Rattle.lab_judge.specs.declared.run.Queue.{Queue}
 use Rattle.lab_core.specs.Controller.{WorksWith}
-use Rattle.lab_core.specs.Queues.{ComesToRun, ObeysRuns, ends_if, first_place}
+use Rattle.lab_core.specs.Queues.{ObeysRuns, ends_if, first_place}
 use Rattle.lab_core.specs.Sessions.{OpenSwap}
 use Rattle.lab_judge.proofs.Drops.{drop_all}
 use Rattle.lab_core.proofs.RunsInTurn.{all_done, ends_there, fails_there, goes_further, place_at, starts, wants_behind, works_further}
+use Rattle.lab_core.proofs.HowFar.{ComesToRun}
 use Rattle.lab_core.proofs.controller.Controller.serve_runs.Goals as goal
 
 pub loop-run-init : goal.loop-run-init

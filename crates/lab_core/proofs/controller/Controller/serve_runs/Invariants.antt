@@ -2,8 +2,9 @@ use Rattle.std.proofs.Common.{◌≡◌, ◌≤◌, List, drop, false, length}
 use Rattle.script_text.specs.Replies.{served_of}
 use Rattle.script_text.specs.declared.reply.Reply.{Reply}
 use Rattle.lab_core.specs.Controller.{CanWork}
-use Rattle.lab_core.specs.Queues.{ComesToRun, first_place}
+use Rattle.lab_core.specs.Queues.{first_place}
 use Rattle.lab_core.proofs.RunsInTurn.{place_at}
+use Rattle.lab_core.proofs.HowFar.{ComesToRun}
 use Rattle.lab_core.proofs.controller.Controller.serve_runs.Given as goal
 
 abbrev pub invariant-loop-run : goal.invariant-loop-run
