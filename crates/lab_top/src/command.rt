@@ -82,13 +82,21 @@ fn obey_open<P: Tables>(
 {
     match opened.obey(command, rule, plant) {
         Ok(reply) => {
-            if !reply.closes() {
-                *controller = Some(opened);
+            if reply.closes() {
+                drop(opened);
+            } else {
+                drop(controller.replace(opened));
             }
             Ok(reply)
         }
-        Err(CoreFault::Stopped) => start_again(plant),
-        Err(CoreFault::Memory) => Err(CommandFault::Memory),
+        Err(CoreFault::Stopped) => {
+            drop(opened);
+            start_again(plant)
+        }
+        Err(CoreFault::Memory) => {
+            drop(opened);
+            Err(CommandFault::Memory)
+        }
     }
 }
 

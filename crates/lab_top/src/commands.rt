@@ -11,21 +11,30 @@ use crate::command::{CommandFault, answer_command};
 use crate::status::Status;
 use crate::tellers::Teller;
 use cost_rule::StepRule;
+use lab_core::Controller;
 use lab_io::{LineReader, Source};
 use plant_tables::Tables;
 use script_text::{Next, ScriptFault, read_command};
 use std::alloc::Global;
 
+/// A run of a script: its lines, and the controller where it is open. It outlives the loop over its commands, so that no way out of that ends it.
+#[derive(Drop)]
+struct Run {
+    lines: LineReader,
+    controller: Option<Controller>,
+}
+
 /// Obeys the commands of a script one after another, and tells the reply to each before it reads the next.
-pub(crate) fn obey_commands<S: Source, T: Teller, P: Tables>(
+fn obey_commands<S: Source, T: Teller, P: Tables>(
     alloc: Global,
-    reader: &mut LineReader,
+    run: &mut Run,
     rule: &StepRule,
     source: &mut S,
     teller: &mut T,
     plant: &mut P,
 ) -> Status
-    requires { IsNew reader.old }
+    requires lines { IsNew run.old.lines }
+    requires closed { run.old.controller ≡ None }
     ensures ran { (made : List Begun) × Ran (terms_of P.takes_drills rule.now.number) (Some Usual)
         (record { left = S.left source.old; plant = P.seen plant.old; written = T.written teller.old })
         (record { left = S.left source.new; plant = P.seen plant.new; written = T.written teller.new }) result made
@@ -36,11 +45,10 @@ pub(crate) fn obey_commands<S: Source, T: Teller, P: Tables>(
     ensures write { result ≡ Status.WriteFault → Rose (T.faults teller.old) (T.faults teller.new) }
     ensures write_later { T.faults teller.old ≤ T.faults teller.new }
 {
-    let mut controller = None;
     'commands: loop {
-        match read_command(alloc, reader, source) {
+        match read_command(alloc, &mut run.lines, source) {
             Ok(Next::Command(command)) => {
-                match answer_command(alloc, &mut controller, command, rule, teller, plant) {
+                match answer_command(alloc, &mut run.controller, command, rule, teller, plant) {
                     Ok(()) => {}
                     Err(CommandFault::Memory) => return Status::Memory,
                     Err(CommandFault::WriteFault) => return Status::WriteFault,
@@ -55,4 +63,34 @@ pub(crate) fn obey_commands<S: Source, T: Teller, P: Tables>(
             Err(ScriptFault::Memory) => return Status::Memory,
         }
     }
+}
+
+/// Obeys a script from its first line to its end.
+pub(crate) fn obey_script<S: Source, T: Teller, P: Tables>(
+    alloc: Global,
+    rule: &StepRule,
+    source: &mut S,
+    teller: &mut T,
+    plant: &mut P,
+) -> Status
+    ensures ran { (made : List Begun) × Ran (terms_of P.takes_drills rule.now.number) (Some Usual)
+        (record { left = S.left source.old; plant = P.seen plant.old; written = T.written teller.old })
+        (record { left = S.left source.new; plant = P.seen plant.new; written = T.written teller.new }) result made
+        × (result ≡ Status.Done → Took T.takes teller.old (replies_of made) teller.new) }
+    ensures read { result ≡ Status.ReadFault → Rose (S.faults source.old) (S.faults source.new) }
+    ensures calm { result ≢ Status.ReadFault → S.faults source.new ≡ S.faults source.old }
+    ensures read_later { S.faults source.old ≤ S.faults source.new }
+    ensures write { result ≡ Status.WriteFault → Rose (T.faults teller.old) (T.faults teller.new) }
+    ensures write_later { T.faults teller.old ≤ T.faults teller.new }
+{
+    let Ok(lines) = LineReader::new(alloc) else {
+        return Status::Memory;
+    };
+    let mut run = Run {
+        lines,
+        controller: None,
+    };
+    let status = obey_commands(alloc, &mut run, rule, source, teller, plant);
+    drop(run);
+    status
 }

@@ -7,12 +7,12 @@ ghost use Rattle.lab_gen.specs.Summary.{IsTally, summary};
 ghost use Rattle.lab_top.specs.Pieces.{Begun};
 ghost use Rattle.lab_top.specs.Ran.{Finishes, Numbered, Ran, WroteSummary};
 
-use crate::commands::obey_commands;
+use crate::commands::obey_script;
 use crate::status::Status;
 use crate::tellers::Counter;
 use cost_rule::StepRule;
 use lab_gen::{Tally, TextSource, generate};
-use lab_io::{LineReader, Sink, write_all};
+use lab_io::{Sink, write_all};
 use plant_tables::Tables;
 use std::alloc::Global;
 
@@ -50,14 +50,11 @@ pub(crate) fn run_generated<K: Sink, P: Tables>(
     let Ok(text) = generate(alloc, seed) else {
         return Status::Memory;
     };
-    let Ok(mut reader) = LineReader::new(alloc) else {
-        return Status::Memory;
-    };
     let mut source = TextSource::new(text);
     let mut counter = Counter {
         tally: Tally::new(),
     };
-    match obey_commands(alloc, &mut reader, rule, &mut source, &mut counter, plant) {
+    match obey_script(alloc, rule, &mut source, &mut counter, plant) {
         Status::Done => write_summary(alloc, seed, &counter.tally, sink),
         status => status,
     }

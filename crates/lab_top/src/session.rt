@@ -8,41 +8,17 @@ ghost use Rattle.cost_rule.specs.Parts.{AreParts, cost_of_parts};
 ghost use Rattle.lab_core.specs.Sessions.{terms_of};
 ghost use Rattle.lab_top.specs.Pieces.{Begun};
 ghost use Rattle.lab_top.specs.Ran.{Numbered, Ran};
-ghost use Rattle.lab_words.specs.Words.{Usual};
 
-use crate::commands::obey_commands;
+use crate::commands::obey_script;
 use crate::generated::run_generated;
 use crate::status::Status;
 use cost_rule::{CostFn, Parts, PartsFn, Rule, RuleNumber, StepFn, StepRule};
-use lab_io::{LineReader, Sink, Source};
+use lab_io::{Sink, Source};
 use phys_lab::Lab;
 use plant_tables::Tables;
 use rule_costs::{cost_of, parts_cost, step_cost};
 use std::alloc::Global;
 use virt_topo::{Mapping, Wiring};
-
-/// Obeys the script of the source.
-fn run_script<S: Source, K: Sink, P: Tables>(
-    alloc: Global,
-    rule: &StepRule,
-    source: &mut S,
-    sink: &mut K,
-    plant: &mut P,
-) -> Status
-    ensures ran { (made : List Begun) × Ran (terms_of P.takes_drills rule.now.number) (Some Usual)
-        (record { left = S.left source.old; plant = P.seen plant.old; written = K.written sink.old })
-        (record { left = S.left source.new; plant = P.seen plant.new; written = K.written sink.new }) result made }
-    ensures read { result ≡ Status.ReadFault → Rose (S.faults source.old) (S.faults source.new) }
-    ensures calm { result ≢ Status.ReadFault → S.faults source.new ≡ S.faults source.old }
-    ensures read_later { S.faults source.old ≤ S.faults source.new }
-    ensures write { result ≡ Status.WriteFault → Rose (K.faults sink.old) (K.faults sink.new) }
-    ensures write_later { K.faults sink.old ≤ K.faults sink.new }
-{
-    let Ok(mut reader) = LineReader::new(alloc) else {
-        return Status::Memory;
-    };
-    obey_commands(alloc, &mut reader, rule, source, sink, plant)
-}
 
 /// Obeys a script under the cost rule of that number, which is made once. The script is that of a seed, if there is one, else the source's.
 pub(crate) fn run_under<S: Source, K: Sink, P: Tables>(
@@ -91,6 +67,6 @@ pub(crate) fn run_under<S: Source, K: Sink, P: Tables>(
     let rule = StepRule::new(Rule::new(number, whole), step, parted);
     match seed {
         Some(seed) => run_generated(alloc, seed, &rule, sink, plant),
-        None => run_script(alloc, &rule, source, sink, plant),
+        None => obey_script(alloc, &rule, source, sink, plant),
     }
 }

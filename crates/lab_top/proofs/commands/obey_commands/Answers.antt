@@ -13,13 +13,13 @@ use Rattle.lab_top.proofs.commands.obey_commands.Goals as goal
 
 pub commands-init : goal.commands-init
 commands-init g c =
-    let n = c.requires in
+    let n = c.requires.lines in
     let left = g.S.Source.left c.args.source.now in
-    let stand = stand_of c.args.reader.now left in
+    let stand = stand_of c.args.run.now.lines left in
     record {
       ready = (n.fault, inl n.ended);
       near = rw n.pending (omega arith);
-      going = ([], going_none _ _ (g.T.Teller.written c.args.teller.now) refl, λ bytes is. covers_none bytes stand (ap (λ p. prepend_known p left) n.pending ∙ prepend_known-nil left ∙ is) n.ended n.taken n.lines, refl);
+      going = ([], rw c.requires.closed (going_none _ _ (g.T.Teller.written c.args.teller.now) refl), λ bytes is. covers_none bytes stand (ap (λ p. prepend_known p left) n.pending ∙ prepend_known-nil left ∙ is) n.ended n.taken n.lines, refl);
       read = omega arith;
       calm = refl;
       write = omega arith;
@@ -33,7 +33,7 @@ returns-in-Ok-End-clause-ran g c =
     let inv = c.commands.invariant in
     let was = inv.going in
     let e = rw c.in-Ok-End.field-0-is at c.in-Ok-End.ensures in
-    let now = stand_of c.commands.reader (g.S.Source.left c.commands.source) in
+    let now = stand_of c.commands.run.lines (g.S.Source.left c.commands.source) in
     let new = stand_of c.read_command.new.lines (g.S.Source.left c.read_command.new.source) in (
       was.0,
       begun_ran _ _ _ _ _ _ _ Done was.0 (going_ends _ _ _ _ _ was.0 was.1 Done (λ t. tt) (λ runs. runs) (λ all. all) (λ wrote. wrote))
@@ -46,7 +46,7 @@ returns-in-Err-Bad-clause-ran g c =
     let inv = c.commands.invariant in
     let was = inv.going in
     let e = rw c.in-Err-Bad.field-0-is at c.in-Err-Bad.ensures in
-    let now = stand_of c.commands.reader (g.S.Source.left c.commands.source) in
+    let now = stand_of c.commands.run.lines (g.S.Source.left c.commands.source) in
     let new = stand_of c.read_command.new.lines (g.S.Source.left c.read_command.new.source) in
     let line = c.in-Err-Bad.line in rw c.in-Err-Bad.field-0-is (
       was.0,
@@ -60,7 +60,7 @@ returns-in-Err-ReadFault-clause-ran g c =
     let inv = c.commands.invariant in
     let was = inv.going in
     let e = rw c.in-Err-ReadFault.field-0-is at c.in-Err-ReadFault.ensures in
-    let now = stand_of c.commands.reader (g.S.Source.left c.commands.source) in
+    let now = stand_of c.commands.run.lines (g.S.Source.left c.commands.source) in
     let new = stand_of c.read_command.new.lines (g.S.Source.left c.read_command.new.source) in (
       was.0,
       begun_ran _ _ _ _ _ _ _ ReadFault was.0 (going_ends _ _ _ _ _ was.0 was.1 ReadFault (λ t. tt) (λ runs. runs) (λ all. all) (λ wrote. wrote))
@@ -73,7 +73,7 @@ returns-in-Err-Memory-clause-ran g c =
     let inv = c.commands.invariant in
     let was = inv.going in
     let e = rw c.in-Err-Memory.field-0-is at c.in-Err-Memory.ensures in
-    let now = stand_of c.commands.reader (g.S.Source.left c.commands.source) in
+    let now = stand_of c.commands.run.lines (g.S.Source.left c.commands.source) in
     let new = stand_of c.read_command.new.lines (g.S.Source.left c.read_command.new.source) in (
       was.0,
       begun_ran _ _ _ _ _ _ _ Memory was.0 (going_ends _ _ _ _ _ was.0 was.1 Memory (λ t runs. inl was.1.answered) (λ runs. tt) (λ all. inl all) (λ wrote. wrote))
@@ -87,7 +87,7 @@ commands-preserved g c =
     let was = inv.going in
     let e = rw c.in-Ok-Command.field-0-is at c.in-Ok-Command.ensures in
     let a = c.in-Ok.ensures in
-    let now = stand_of c.commands.reader (g.S.Source.left c.commands.source) in
+    let now = stand_of c.commands.run.lines (g.S.Source.left c.commands.source) in
     let new = stand_of c.read_command.new.lines (g.S.Source.left c.read_command.new.source) in
     let command = c.in-Ok-Command.command in
     let read = e.next inv.ready in
@@ -112,7 +112,7 @@ returns-in-Err-WriteFault-clause-ran g c =
     let was = inv.going in
     let e = rw c.in-Ok-Command.field-0-is at c.in-Ok-Command.ensures in
     let a = rw c.in-Err-WriteFault.field-0-is at c.in-Err-WriteFault.ensures in
-    let now = stand_of c.commands.reader (g.S.Source.left c.commands.source) in
+    let now = stand_of c.commands.run.lines (g.S.Source.left c.commands.source) in
     let new = stand_of c.read_command.new.lines (g.S.Source.left c.read_command.new.source) in
     let cut = going_cut _ _ _ _ _ _ _ was.0 was.1 c.in-Ok-Command.command (λ reply. g.T.Teller.takes c.commands.teller reply c.answer_command.new.teller) (a.answered _ was.1.goes_on) in
     (cut.0, begun_ran _ _ _ _ _ _ _ WriteFault cut.0 cut.2 (λ bytes is. one_read bytes now new (commands_of was.0) (commands_of cut.0) c.in-Ok-Command.command (was.2 bytes is) (e.next inv.ready) (pending_of c.read_command.new.lines) (g.S.Source.left c.read_command.new.source) refl (omega (arith, e.ahead, inv.near)) cut.1) (λ is. absurd (cc is)), λ is. absurd (cc is))
@@ -123,7 +123,7 @@ returns-in-Err-Memory-answer_command-clause-ran g c =
     let was = inv.going in
     let e = rw c.in-Ok-Command.field-0-is at c.in-Ok-Command.ensures in
     let a = rw c.in-Err-Memory-answer_command.field-0-is at c.in-Err-Memory-answer_command.ensures in
-    let now = stand_of c.commands.reader (g.S.Source.left c.commands.source) in
+    let now = stand_of c.commands.run.lines (g.S.Source.left c.commands.source) in
     let new = stand_of c.read_command.new.lines (g.S.Source.left c.read_command.new.source) in
     let cut = going_memory _ _ _ _ _ _ _ was.0 was.1 c.in-Ok-Command.command (λ reply. g.T.Teller.takes c.commands.teller reply c.answer_command.new.teller) (a.answered _ was.1.goes_on) in (
       cut.0,
@@ -138,7 +138,7 @@ returns-in-Err-JournalBad-clause-ran g c =
     let was = inv.going in
     let e = rw c.in-Ok-Command.field-0-is at c.in-Ok-Command.ensures in
     let a = rw c.in-Err-JournalBad.field-0-is at c.in-Err-JournalBad.ensures in
-    let now = stand_of c.commands.reader (g.S.Source.left c.commands.source) in
+    let now = stand_of c.commands.run.lines (g.S.Source.left c.commands.source) in
     let new = stand_of c.read_command.new.lines (g.S.Source.left c.read_command.new.source) in
     let side = c.in-Err-JournalBad.side in
     let at = c.in-Err-JournalBad.at in

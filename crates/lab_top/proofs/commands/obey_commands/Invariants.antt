@@ -12,12 +12,12 @@ use Rattle.lab_top.proofs.commands.obey_commands.Given as goal
 abbrev pub invariant-commands : goal.invariant-commands
 invariant-commands g l =
     let start : Moment = record { plant = g.P.Plant.seen l.fn.plant; controller = None } in
-    let here : Moment = record { plant = g.P.Plant.seen l.plant; controller = l.controller } in
+    let here : Moment = record { plant = g.P.Plant.seen l.plant; controller = l.run.controller } in
     record {
-      ready : IsReady l.reader (g.S.Source.left l.source);
-      near : length (pending_of l.reader) ≤ 8193;
+      ready : IsReady l.run.lines (g.S.Source.left l.source);
+      near : length (pending_of l.run.lines) ≤ 8193;
       going : (begun : List Begun) × Going (terms_of g.P.Plant.takes_drills l.fn.rule.number) start here (g.T.Teller.written l.fn.teller) (g.T.Teller.written l.teller) begun
-          × ((bytes : List ℕ) → g.S.Source.left l.fn.source ≡ Some bytes → Covers (at_start bytes) (stand_of l.reader (g.S.Source.left l.source)) (commands_of begun))
+          × ((bytes : List ℕ) → g.S.Source.left l.fn.source ≡ Some bytes → Covers (at_start bytes) (stand_of l.run.lines (g.S.Source.left l.source)) (commands_of begun))
           × Took g.T.Teller.takes l.fn.teller (replies_of begun) l.teller;
       read : g.S.Source.faults l.fn.source ≤ g.S.Source.faults l.source;
       calm : g.S.Source.faults l.source ≡ g.S.Source.faults l.fn.source;
@@ -25,4 +25,4 @@ invariant-commands g l =
     }
 
 abbrev pub decreases-commands : goal.decreases-commands
-decreases-commands g l = 2 ^ 32 - taken_of l.reader
+decreases-commands g l = 2 ^ 32 - taken_of l.run.lines

@@ -10,23 +10,20 @@ use Rattle.lab_top.proofs.generated.run_generated.Goals as goal
 pub returns-in_default-clause-ran : goal.returns-in_default-clause-ran
 returns-in_default-clause-ran g c = λ left. ([], unbegun _ (Some (Numbered (Some c.args.seed))) _)
 
-pub returns-in_default-new-clause-ran : goal.returns-in_default-new-clause-ran
-returns-in_default-new-clause-ran g c = λ left. ([], unbegun _ (Some (Numbered (Some c.args.seed))) _)
-
 pub returns-in-Done-clause-ran : goal.returns-in-Done-clause-ran
 returns-in-Done-clause-ran g c = λ left.
-    let r = c.obey_commands.ensures.ran in
+    let r = c.obey_script.ensures.ran in
     let source = ap (λ (bytes : List ℕ). let o : Option (List ℕ) = Some bytes in o) (c.new-source.ensures ∙ c.in-Ok.ensures.text) in
-    let first : Counter = record { tally = c.new-2.result } in
-    let tally = counted (replies_of r.0) [] first c.obey_commands.new.teller c.new-2.ensures (r.2 c.in-Done.is) in
+    let first : Counter = record { tally = c.new.result } in
+    let tally = counted (replies_of r.0) [] first c.obey_script.new.teller c.new.ensures (r.2 c.in-Done.is) in
     (r.0, finished _ c.args.seed _ _ _ r.0 source r.1 c.in-Done.is left _ _ c.write_summary.result c.write_summary.ensures.finishes (c.write_summary.ensures.wrote (replies_of r.0) tally))
 
 pub returns-clause-ran : goal.returns-clause-ran
 returns-clause-ran g c = λ left.
-    let r = c.obey_commands.ensures.ran in
+    let r = c.obey_script.ensures.ran in
     let source = ap (λ (bytes : List ℕ). let o : Option (List ℕ) = Some bytes in o) (c.new-source.ensures ∙ c.in-Ok.ensures.text) in
     let script = c.in-Ok.ensures.script in
-    (r.0, broken_off _ c.args.seed _ _ _ r.0 source r.1 script.0 (subst (λ (bytes : List ℕ). IsScript bytes script.0 AtEnd) c.in-Ok.ensures.text script.1) left _ (λ is. c.in_default-obey_commands.not-Done is) (λ is. never_rose (c.obey_commands.ensures.read is)) (λ is. never_rose (c.obey_commands.ensures.write is)))
+    (r.0, broken_off _ c.args.seed _ _ _ r.0 source r.1 script.0 (subst (λ (bytes : List ℕ). IsScript bytes script.0 AtEnd) c.in-Ok.ensures.text script.1) left _ (λ is. c.in_default-obey_script.not-Done is) (λ is. never_rose (c.obey_script.ensures.read is)) (λ is. never_rose (c.obey_script.ensures.write is)))
 
 pub returns-clause-write : goal.returns-clause-write
-returns-clause-write g c = λ is. absurd (never_rose (c.obey_commands.ensures.write is))
+returns-clause-write g c = λ is. absurd (never_rose (c.obey_script.ensures.write is))
