@@ -325,7 +325,9 @@ fn drawn(alloc: Global, plan: Plan<'_>, layout: &Layout) -> Result<Geometry, Mem
 }
 
 /// Where everything stands in the picture of a lab.
-pub fn geometry_of(alloc: Global, view: &View) -> Result<Geometry, Memory> {
+pub fn geometry_of(alloc: Global, view: &View) -> Result<Geometry, Memory>
+    ensures { IfOk result (IsLaid view.now) }
+{
     let forest = forest_of(alloc, view)?;
     let rows = Rows::new(alloc, view)?;
     let plan = Plan {
