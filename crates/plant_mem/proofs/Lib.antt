@@ -4,6 +4,7 @@ mod Commanding
 mod Counts
 mod Growing
 mod Images
+mod Keeping
 mod Knowing
 mod Numbers
 mod Passes

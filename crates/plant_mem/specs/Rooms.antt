@@ -1,5 +1,5 @@
 -- The rooms of a plant in memory.
-use Rattle.std.specs.Prelude.{ℕ, ◌+◌, ◌-◌, ◌≤◌, ◌&&◌, min, nat_le, nat_lt, Bool, List, length, vec_len, vec_capacity}
+use Rattle.std.specs.Prelude.{◌≡◌, ℕ, ◌+◌, ◌-◌, ◌≤◌, ◌&&◌, min, nat_le, nat_lt, Bool, List, length, vec_len, vec_capacity}
 use Rattle.plant.specs.Disks.{Disk, disk}
 use Rattle.plant.specs.Events.{Event}
 use Rattle.plant.specs.declared.step.Side.{Side}
@@ -15,7 +15,8 @@ pub record SideRooms : Type 0 where
   pub durable : ℕ
   pub writes : ℕ
 
--- for how many steps, entries of the tables of nodes and of rows, and written bytes more there is room; and the rooms of both sides
+-- how many steps and written bytes are left before it stops; for how many entries of the tables of nodes and of rows there is room; and the
+-- rooms of both sides
 pub record Rooms : Type 0 where
   pub steps : ℕ
   pub entries : ℕ
@@ -28,9 +29,9 @@ side_rooms face = record { reads = vec_capacity face.reads; durable = vec_capaci
 
 abbrev pub rooms_of : MemLab → Rooms
 rooms_of m = record {
-  steps = vec_capacity m.past.steps - vec_len m.past.steps;
+  steps = m.last_step - vec_len m.past.steps;
   entries = min (vec_capacity m.past.nodes - vec_len m.past.nodes) (vec_capacity m.past.rows - vec_len m.past.rows);
-  bytes = vec_capacity m.past.bytes - vec_len m.past.bytes;
+  bytes = m.last_byte - vec_len m.past.bytes;
   a = side_rooms m.past.a;
   b = side_rooms m.past.b;
 }
@@ -70,7 +71,8 @@ can_cut m side size = fits_cut (rooms_of m) (disk side (told_of m).trace) size
 abbrev pub can_command : MemLab → Bool
 can_command m = fits_command (rooms_of m)
 
--- no room is less than before, but for so many steps, each with an entry and a write, and so many bytes
+-- no room is less than before, but for so many steps, each with an entry and a write, and so many bytes; steps and bytes that are left don't
+-- grow
 pub record KeepsSide (steps : ℕ) (old new : SideRooms) : Type 0 where
   pub reads : old.reads ≤ new.reads
   pub durable : old.durable ≤ new.durable
@@ -80,19 +82,21 @@ pub record KeepsRooms (steps bytes : ℕ) (old new : Rooms) : Type 0 where
   pub steps_left : old.steps ≤ new.steps + steps
   pub entries : old.entries ≤ new.entries + steps
   pub bytes_left : old.bytes ≤ new.bytes + bytes
+  pub no_more_steps : new.steps ≤ old.steps
+  pub no_more_bytes : new.bytes ≤ old.bytes
   pub a : KeepsSide steps old.a new.a
   pub b : KeepsSide steps old.b new.b
 
--- THE ROOMS AT FIRST AND AFTER A START: 262,144 steps, each with an entry and a write, and 16 MiB of written bytes, and of each side 16 MiB
--- more than it has, as it reads and as it is durable
+-- THE ROOMS AT FIRST AND AFTER A START: 262,144 steps and 16 MiB of written bytes are left, no more and no less. There is room for an entry and
+-- a write of each of these steps, and on each side for 16 MiB more than it has, as it reads and as it is durable
 pub record HasSide (d : Disk) (r : SideRooms) : Type 0 where
   pub reads : length d.reads + 16777216 ≤ r.reads
   pub durable : length d.durable + 16777216 ≤ r.durable
   pub writes : 262144 ≤ r.writes
 
 pub record HasRooms (trace : List Event) (r : Rooms) : Type 0 where
-  pub steps : 262144 ≤ r.steps
+  pub steps : r.steps ≡ 262144
   pub entries : 262144 ≤ r.entries
-  pub bytes : 16777216 ≤ r.bytes
+  pub bytes : r.bytes ≡ 16777216
   pub a : HasSide (disk A trace) r.a
   pub b : HasSide (disk B trace) r.b

@@ -5,6 +5,7 @@ mod face;
 mod fate;
 mod mem;
 mod mem_disk;
+mod mem_lab;
 mod mem_plant;
 mod mem_readings;
 mod mem_tables;

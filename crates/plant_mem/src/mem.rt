@@ -1,45 +1,36 @@
-ghost use Rattle.std.specs.Prelude.{◌≡◌, IfOk, OnOk, OnErr, Err, true};
-ghost use Rattle.plant.specs.Calls.{DeviceCause};
-ghost use Rattle.plant.specs.Events.{Did};
-ghost use Rattle.plant.specs.Worlds.{world_of};
-ghost use Rattle.plant_mem.specs.Boots.{state_sent};
-ghost use Rattle.plant_mem.specs.Commands.{answer_sent, sent, stopped_at, restarted, after_command, answer_command};
-ghost use Rattle.plant_mem.specs.Held.{held_of, at_first, with_events, effect_if};
-ghost use Rattle.plant_mem.specs.MemLab.{told_of, faults_of, bytes_of, state_of};
-ghost use Rattle.plant_mem.specs.Rooms.{rooms_of, can_command, HasRooms, KeepsRooms};
-ghost use Rattle.plant_mem.specs.Steps.{trace_of};
+ghost use Rattle.std.specs.Prelude.{◌≤◌, vec_capacity};
 
-use crate::motion::Motion;
 use crate::past::Past;
-use crate::plans::{Plan, count_down, failure_of, motion_of};
-use crate::rows::Row;
-use crate::stops::{StopPlan, count_stop, is_done};
-use lab_base::{Memory, Name, VlanId};
-use plant::{Answer, DeviceOp, Fault, Faults, Moment, Pick, Step, Taken};
-use std::alloc::Global;
+use crate::plans::Plan;
+use crate::stops::StopPlan;
+use plant::{Faults, Moment, Pick, Taken};
 
-/// The number of steps for which there is room from the start.
+/// The number of steps from a start to the one at which the plant stops.
 pub(crate) const ROOM: usize = 262_144;
 
-/// The number of written bytes for which there is room from the start, and the number of bytes of each side.
+/// The number of bytes that are written from a start to the stop, and of those for which each side has room.
 pub(crate) const BYTES: usize = 16_777_216;
 
 /// The number of steps for which there is more room from the start, so that the first restarts of a short run move nothing that is kept.
-const MORE_ROOM: usize = 16_384;
+pub(crate) const MORE_ROOM: usize = 16_384;
 
 /// The number of written bytes for which there is more room from the start.
-const MORE_BYTES: usize = 1_048_576;
+pub(crate) const MORE_BYTES: usize = 1_048_576;
 
 /// A plant in memory, which tells its trace and takes drills.
 ///
-/// From the start and after each restart it has room for at least 262,144 steps more, each with an entry of its tables of nodes and of rows. It has room for 16 MiB more of
-/// written bytes. On each side it has room for 16 MiB more as it reads, and as it is durable. So none of its six calls to the disk and the devices
-/// takes memory.
+/// From the start and after each restart it takes 262,144 steps more and 16 MiB more of written bytes. It has room for them, with an entry of its
+/// tables of nodes and of rows for each step, and with 16 MiB more on each side as it reads, and as it is durable. So none of its six calls to
+/// the disk and the devices takes memory.
 ///
-/// At the write, sync, cut or command that would pass the room it stops, without effect. A restart then leaves the durable bytes.
+/// At the write, sync, cut or command that would pass these numbers it stops, without effect. A restart then leaves the durable bytes.
 #[derive(Drop)]
 pub struct MemLab {
     pub(crate) past: Past,
+    /// The number of steps at which the plant stops.
+    pub(crate) last_step: usize,
+    /// The number of written bytes that it doesn't pass.
+    pub(crate) last_byte: usize,
     pub(crate) marks: Vec<Moment>,
     pub(crate) taken: Vec<Taken>,
     pub(crate) plans: Vec<Plan>,
@@ -50,135 +41,6 @@ pub struct MemLab {
     pub(crate) pick: Pick,
     pub(crate) faults: Faults,
     pub(crate) stopped: bool,
-}
-
-impl MemLab {
-    /// A plant in which nothing has happened.
-    pub fn blank(alloc: Global) -> Result<MemLab, Memory>
-        ensures holds { IfOk result (λ lab. held_of lab ≡ at_first) }
-        ensures rooms { IfOk result (λ lab. HasRooms (told_of lab).trace (rooms_of lab)) }
-    {
-        Ok(MemLab {
-            past: Past::new(alloc, ROOM + MORE_ROOM, BYTES + MORE_BYTES)?,
-            marks: Vec::new(alloc),
-            taken: Vec::new(alloc),
-            plans: Vec::new(alloc),
-            disk_plans: Vec::new(alloc),
-            stop: None,
-            pick: Pick::Nothing,
-            faults: Faults {
-                disk: 0,
-                devices: 0,
-            },
-            stopped: false,
-        })
-    }
-
-    /// The steps so far.
-    pub fn trace(&self) -> &[Step]
-        ensures { trace_of (bytes_of self.now) result.now ≡ (told_of self.now).trace }
-    {
-        &self.past.steps
-    }
-
-    /// The bytes of which the steps name ranges.
-    pub fn bytes(&self) -> &[u8]
-        ensures { result.now ≡ bytes_of self.now }
-    {
-        &self.past.bytes
-    }
-
-    /// Whether the port of the switch is in the VLAN.
-    pub fn has_row(&self, switch: Name, port: u16, vlan: VlanId) -> bool
-        ensures { result ≡ (world_of (told_of self.now).trace).rows (record { switch = switch; port = port; vlan = vlan.0 }) }
-    {
-        let row = Row { switch, port, vlan };
-        let mut there = false;
-        for step in &self.past.steps {
-            there = row.after(step, there);
-        }
-        there
-    }
-
-    /// Sends a command for which there is room.
-    pub(crate) fn send(&mut self, op: &DeviceOp) -> Result<Answer, Fault>
-        requires { can_command self.old ≡ true }
-        ensures answer { result ≡ answer_sent op.now (held_of self.old) }
-        ensures cause { DeviceCause (faults_of self.old) (faults_of self.new) result }
-        ensures held { held_of self.new ≡ sent op.now (held_of self.old) }
-        ensures rooms { KeepsRooms 1 0 (rooms_of self.old) (rooms_of self.new) }
-    {
-        let motion = motion_of(&self.plans, op);
-        let failure = failure_of(&self.plans, op);
-        count_down(&mut self.plans, op, failure.unwrap_or(true));
-        match failure {
-            None => Ok(self.past.done(op, motion)),
-            Some(applied) => {
-                self.faults.devices = self.faults.devices.saturating_add(1);
-                self.past.failed(op, motion, applied, Fault::Failed);
-                Err(Fault::Failed)
-            }
-        }
-    }
-
-    /// Stops at a command for which there is room. The pick tells whether the command is applied.
-    pub(crate) fn stop_at(&mut self, op: &DeviceOp, pick: Pick)
-        requires { can_command self.old ≡ true }
-        ensures held { held_of self.new ≡ stopped_at op.now pick (held_of self.old) }
-        ensures rooms { KeepsRooms 1 0 (rooms_of self.old) (rooms_of self.new) }
-    {
-        let motion = motion_of(&self.plans, op);
-        count_down(&mut self.plans, op, is_done(pick));
-        self.apply_if(is_done(pick), op, motion);
-        self.halt(pick);
-    }
-
-    /// Notes a command at which the plant stops, applied or not.
-    fn apply_if(&mut self, applied: bool, op: &DeviceOp, motion: Motion)
-        requires { can_command self.old ≡ true }
-        ensures held { held_of self.new
-            ≡ record (with_events (effect_if applied (Did op.now true (Err Fault.Stopped))) (held_of self.old))
-            { state = λ node. state_sent op.now motion applied node (state_of self.old node) } }
-        ensures rooms { KeepsRooms 1 0 (rooms_of self.old) (rooms_of self.new) }
-    {
-        if applied {
-            self.past.failed(op, motion, true, Fault::Stopped);
-        }
-    }
-
-    /// Starts again, with the part of each side that the stop's pick leaves, and with the rooms of a blank plant.
-    pub(crate) fn start_again(&mut self) -> Result<(), Memory>
-        ensures ok { OnOk result (held_of self.new ≡ restarted (held_of self.old)) }
-        ensures err { OnErr result (held_of self.new ≡ held_of self.old) }
-        ensures rooms { OnOk result (HasRooms (told_of self.new).trace (rooms_of self.new)) }
-    {
-        self.past.make_room(ROOM, BYTES)?;
-        self.past.restarted(self.pick);
-        self.pick = Pick::Nothing;
-        self.stopped = false;
-        Ok(())
-    }
-
-    /// Sends a command, where there is room for it and the plant doesn't stop at it.
-    pub(crate) fn perform(&mut self, op: &DeviceOp) -> Result<Answer, Fault>
-        ensures answer { result ≡ answer_command (can_command self.old) op.now (held_of self.old) }
-        ensures cause { DeviceCause (faults_of self.old) (faults_of self.new) result }
-        ensures held { held_of self.new ≡ after_command (can_command self.old) op.now (held_of self.old) }
-        ensures rooms { KeepsRooms 1 0 (rooms_of self.old) (rooms_of self.new) }
-    {
-        if self.stopped {
-            return Err(Fault::Stopped);
-        }
-        if !self.can_command() {
-            self.halt(Pick::Nothing);
-            return Err(Fault::Stopped);
-        }
-        match count_stop(&mut self.stop) {
-            None => self.send(op),
-            Some(pick) => {
-                self.stop_at(op, pick);
-                Err(Fault::Stopped)
-            }
-        }
-    }
+    ghost steps_fit: { last_step ≤ vec_capacity past.steps },
+    ghost bytes_fit: { last_byte ≤ vec_capacity past.bytes },
 }

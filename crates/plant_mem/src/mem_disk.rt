@@ -27,7 +27,7 @@ impl MemLab {
     pub(crate) fn can_step(&self) -> bool
         ensures { result ≡ can_step self.now }
     {
-        0 < self.past.steps.capacity() - self.past.steps.len()
+        self.past.steps.len() < self.last_step
     }
 
     pub(crate) fn can_command(&self) -> bool
@@ -44,7 +44,7 @@ impl MemLab {
     {
         let face = self.face(side);
         self.can_step()
-            && size <= self.past.bytes.capacity() - self.past.bytes.len()
+            && size <= self.last_byte.saturating_sub(self.past.bytes.len())
             && at <= face.reads.len() as u64
             && size <= face.reads.capacity() - at as usize
             && 0 < face.written.capacity() - face.written.len()
@@ -70,6 +70,8 @@ impl MemLab {
         ensures fate { result ≡ fate has_room (held_of self.old) }
         ensures held { held_of self.new ≡ counted_call has_room (held_of self.old) }
         ensures past { self.new.past ≡ self.old.past }
+        ensures last_step { self.new.last_step ≡ self.old.last_step }
+        ensures last_byte { self.new.last_byte ≡ self.old.last_byte }
     {
         if self.stopped {
             Fate::Rests
@@ -85,6 +87,8 @@ impl MemLab {
         ensures fate { result ≡ read_fate (can_step self.old) (held_of self.old) }
         ensures held { held_of self.new ≡ counted_read (held_of self.old) }
         ensures past { self.new.past ≡ self.old.past }
+        ensures last_step { self.new.last_step ≡ self.old.last_step }
+        ensures last_byte { self.new.last_byte ≡ self.old.last_byte }
     {
         if self.stopped {
             return Fate::Rests;

@@ -303,6 +303,8 @@ impl Past {
         ensures table { self.new.rows.items ≡ self.old.rows.items }
         ensures a_is { disk_of self.new.a ≡ disk_of self.old.a }
         ensures b_is { disk_of self.new.b ≡ disk_of self.old.b }
+        ensures steps_stay { vec_capacity self.old.steps ≤ vec_capacity self.new.steps }
+        ensures bytes_stay { vec_capacity self.old.bytes ≤ vec_capacity self.new.bytes }
         ensures steps { OnOk result (vec_len self.new.steps + (steps + 1) ≤ vec_capacity self.new.steps) }
         ensures bytes { OnOk result ((pick : Pick)
             → (vec_len self.new.bytes + length (left_by pick (disk_of self.new.a))) + length (left_by pick (disk_of self.new.b)) + bytes ≤ vec_capacity
