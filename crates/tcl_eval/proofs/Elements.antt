@@ -1,8 +1,29 @@
 -- Items of lists, and words that are put into a list.
-use Rattle.std.proofs.Common.{◌≡◌, ℕ, ◌+◌, ◌<◌, List, [], ◌∷◌, length, get_or, drop, refl, sym, ap, subst, ◌∙◌, Result, Ok, Err}
+use Rattle.std.proofs.Common.{◌≡◌, ◌⊎◌, inr, ℕ, ◌+◌, ◌<◌, ◌≤◌, List, [], ◌∷◌, ◌++◌, length, get_or, drop, refl, sym, ap, subst, ◌∙◌, Result, Ok, Err, IfErr}
+use Rattle.std.proofs.lemmas.List.{drop_all, append-nil}
 use Rattle.lab_base.specs.declared.fault.Kind.{Kind}
+use Rattle.lab_base.specs.declared.fault.Kind.TheVariants as kinds
 use Rattle.lab_base.proofs.Lists.{item_at}
-use Rattle.tcl_eval.specs.Forms.{with_element, listed_on}
+use Rattle.tcl_eval.specs.declared.halts.Halt.{Halt}
+use Rattle.tcl_eval.specs.declared.halts.Halt.TheVariants.{Fault, Memory}
+use Rattle.tcl_eval.specs.Forms.{with_element, listed_on, behind_each, joined_by}
+
+-- words one behind another
+pub joined_none : (ws : List (List ℕ)) → behind_each [] ws ≡ joined_by [] ws
+joined_none [] = refl
+joined_none (w ∷ ws) = refl
+
+pub appended_is : (all value : List ℕ) (ws : List (List ℕ)) (i : ℕ) → length ws ≤ i → all ++ behind_each [] (drop i ws) ≡ value ++ behind_each [] ws
+    → all ≡ value ++ joined_by [] ws
+appended_is all value ws i past is =
+    let none : behind_each [] (drop i ws) ≡ [] = ap (λ (rest : List (List ℕ)). behind_each [] rest) (drop_all i ws past) in
+    sym (append-nil all) ∙ ap (λ (rest : List ℕ). all ++ rest) (sym none) ∙ is ∙ ap (λ (rest : List ℕ). value ++ rest) (joined_none ws)
+
+-- what a value that is too long ends by
+pub long_or : (y : Result (List ℕ) Halt) (v : List ℕ) → IfErr y (λ halt. (halt ≡ Fault kinds.Long) × (65536 < length v))
+    → IfErr y (λ halt. (halt ≡ Memory) ⊎ ((halt ≡ Fault kinds.Long) × (65536 < length v)))
+long_or (Ok v) w h = tt
+long_or (Err e) w h = inr h
 
 pub failed_on : (k : Kind) (ws : List (List ℕ)) → listed_on (Err k) ws ≡ Err k
 failed_on k [] = refl

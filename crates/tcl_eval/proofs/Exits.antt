@@ -1,5 +1,5 @@
 -- The exits of `?`, and results that are handed on.
-use Rattle.std.proofs.Common.{◌≡◌, ℕ, ◌<◌, ◌≤◌, List, length, Result, Ok, Err, IfOk, IfErr}
+use Rattle.std.proofs.Common.{◌≡◌, ◌⊎◌, inl, inr, ℕ, ◌<◌, ◌≤◌, List, length, Result, Ok, Err, IfOk, IfErr}
 use Rattle.lab_base.specs.declared.fault.Kind.{Kind}
 use Rattle.lab_base.specs.declared.fault.Kind.TheVariants as kinds
 use Rattle.lab_base.specs.declared.fault.TextRefused.{TextRefused}
@@ -60,6 +60,12 @@ module _ {O : Type 0} (calls : O → List (List ℕ) → Result Called Kind × O
       → ((f : Flaw) → CommandsOf t 0 (Err f) → Evals calls hears m j u (fails f.kind) x) → IsRefused t r → Ends calls hears w m j u x (Err (refused_halt r))
   refused_ends t w m j u x (refused.Text fault) on h = rw h.2 (on h.0 h.1)
   refused_ends t w m j u x refused.Memory on h = tt
+
+  -- a value that is too long, or memory ran out
+  pub long_ends : {B : Type 0} (v : List ℕ) (w : B → Gain) (m : ℕ) (j : Job) (u x : State O) (e : Halt)
+      → (65536 < length v → Evals calls hears m j u (fails kinds.Long) x) → (e ≡ Memory) ⊎ ((e ≡ Fault kinds.Long) × (65536 < length v)) → Ends calls hears w m j u x (Err e)
+  long_ends v w m j u x e on (inl none) = rw none tt
+  long_ends v w m j u x e on (inr long) = rw long.0 (on long.1)
 
   -- a value that is short, or too long
   pub short_ends : (v : List ℕ) (m : ℕ) (j : Job) (u x : State O) (y : Result (List ℕ) Halt)

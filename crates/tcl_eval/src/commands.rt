@@ -1,7 +1,7 @@
 //! The interpreter's own commands.
 
 ghost use Rattle.std.specs.Prelude.{◌≡◌};
-ghost use Rattle.tcl_eval.specs.Forms.{own, own_of};
+ghost use Rattle.tcl_eval.specs.Forms.{is_text, own, own_of};
 
 use lab_base::Text;
 
@@ -18,25 +18,32 @@ pub enum Own {
     Foreach,
 }
 
+/// Whether a name is this word.
+fn is_word(name: &[u8], word: &[u8]) -> bool
+    ensures { result ≡ is_text name.now word.now }
+{
+    name == word
+}
+
 /// The own command of that name, if there is one.
 fn named_command(name: &[u8]) -> Option<Own>
     ensures { result ≡ own_of name.now }
 {
-    if name == b"set".as_slice() {
+    if is_word(name, b"set") {
         Some(Own::Set)
-    } else if name == b"incr".as_slice() {
+    } else if is_word(name, b"incr") {
         Some(Own::Incr)
-    } else if name == b"append".as_slice() {
+    } else if is_word(name, b"append") {
         Some(Own::Append)
-    } else if name == b"lappend".as_slice() {
+    } else if is_word(name, b"lappend") {
         Some(Own::Lappend)
-    } else if name == b"expr".as_slice() {
+    } else if is_word(name, b"expr") {
         Some(Own::Expr)
-    } else if name == b"if".as_slice() {
+    } else if is_word(name, b"if") {
         Some(Own::If)
-    } else if name == b"for".as_slice() {
+    } else if is_word(name, b"for") {
         Some(Own::For)
-    } else if name == b"foreach".as_slice() {
+    } else if is_word(name, b"foreach") {
         Some(Own::Foreach)
     } else {
         None

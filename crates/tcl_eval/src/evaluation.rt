@@ -16,7 +16,7 @@ use crate::limits::{MAX_VALUE, deeper, index_levels, indexed_name, short};
 use crate::lists::{element_at, joined, words_from};
 use crate::literals::literal;
 use crate::machine::Machine;
-use crate::numbers::{number_text, read_number};
+use crate::numbers::{number_in, number_text};
 use crate::openings::{Opening, closes_at, opening_at};
 use crate::operators::{TIERS, alive, behind_blanks, holds, negated, operator_at, turned};
 use lab_base::{Kind, TEXT_LIMIT, Text};
@@ -139,8 +139,7 @@ impl<H: Host> Machine<H> {
         };
         let name = &text[found.name_start..found.name_end];
         let Some(index) = &found.index else {
-            let name = Text::from_slice(self.alloc, name)?;
-            return Ok((self.read(&name)?, found.end));
+            return Ok((self.named(name)?, found.end));
         };
         let levels = index_levels(levels, in_index)?;
         let index = self.substitute(text, index.as_slice(), levels, line, true)?;
@@ -450,7 +449,7 @@ impl<H: Host> Machine<H> {
     {
         if live {
             let (value, end) = self.variable(text, at, levels, line, false)?;
-            return Ok((read_number(value.bytes())?, end));
+            return Ok((number_in(value)?, end));
         }
         match reference_at(self.alloc, text, at)? {
             Some(found) => Ok((0, found.end)),
@@ -481,6 +480,6 @@ impl<H: Host> Machine<H> {
             return Ok((0, end));
         }
         let value = self.nested(&text[at + 1..end - 1], levels, line)?;
-        Ok((read_number(value.bytes())?, end))
+        Ok((number_in(value)?, end))
     }
 }

@@ -1,12 +1,14 @@
 //! Lists of elements, and words that are joined.
 
-ghost use Rattle.std.specs.Prelude.{◌≡◌, ◌+◌, ◌<◌, ◌≤◌, length, drop, IfOk, IfSome};
+ghost use Rattle.std.specs.Prelude.{◌≡◌, ◌+◌, ◌<◌, ◌≤◌, ◌++◌, ◌⊎◌, [], length, drop, IfOk, IfErr, IfSome};
+ghost use Rattle.lab_base.specs.declared.fault.Kind.TheVariants as kinds;
+ghost use Rattle.tcl_eval.specs.declared.halts.Halt.TheVariants as halts;
 ghost use Rattle.std.specs.List.{prefix_len, list_all};
 ghost use Rattle.tcl_eval.specs.Ends.{Gives};
 ghost use Rattle.tcl_eval.specs.Forms.{listed, with_element, is_between, is_inside, is_special, is_plain, is_element, element_from, joined_by};
 
 use crate::halts::Halt;
-use crate::limits::short;
+use crate::limits::{MAX_VALUE, short};
 use lab_base::{Kind, Memory, Text};
 use std::alloc::Global;
 
@@ -130,6 +132,19 @@ pub fn joined(alloc: Global, words: &[Text], between: &[u8]) -> Result<Text, Mem
         text.push_bytes(word.bytes())?;
     }
     Ok(text)
+}
+
+/// The value with these words behind it.
+pub fn appended(value: Text, words: &[Text]) -> Result<Text, Halt>
+    ensures value { IfOk result (λ all. (all ≡ value ++ joined_by [] words.now) × (length (value ++ joined_by [] words.now) ≤ MAX_VALUE)) }
+    ensures fails { IfErr result (λ halt. (halt ≡ halts.Memory)
+        ⊎ ((halt ≡ halts.Fault kinds.Long) × (MAX_VALUE < length (value ++ joined_by [] words.now)))) }
+{
+    let mut value = value;
+    for word in words {
+        value.push_bytes(word.bytes())?;
+    }
+    short(value)
 }
 
 /// The list with one word more.

@@ -5,8 +5,8 @@ ghost use Rattle.tcl_eval.specs.declared.commands.Own.TheVariants as owns;
 
 use crate::halts::Halt;
 use crate::hosts::{Called, Host, HostFault};
-use crate::limits::{BUDGET, short};
-use crate::lists::{joined, listed, words_from};
+use crate::limits::BUDGET;
+use crate::lists::{appended, listed, words_from};
 use crate::numbers::{number_text, read_number};
 use crate::operators::added;
 use indexmap::IndexMap;
@@ -75,6 +75,14 @@ impl<H: Host> Machine<H> {
             Some(value) => Ok(value.copy()?),
             None => Err(Halt::Fault(Kind::Variable)),
         }
+    }
+
+    /// The value of the variable of these bytes, which has to be set.
+    pub(crate) fn named(&self, name: &[u8]) -> Result<Text, Halt>
+        ensures { Gives (λ r. r ≡ read_of (state self.now.variables.entries (H.objects self.now.host) self.now.left) name.now) result }
+    {
+        let name = Text::from_slice(self.alloc, name)?;
+        self.read(&name)
     }
 
     /// The value of a variable, or the empty text.
@@ -174,10 +182,8 @@ impl<H: Host> Machine<H> {
             return Err(Halt::Fault(Kind::Arity));
         }
         let name = &words[1];
-        let more = joined(self.alloc, words_from(words, 2), b"")?;
-        let mut value = self.read_or_empty(name)?;
-        value.push_bytes(more.bytes())?;
-        let value = short(value)?;
+        let old = self.read_or_empty(name)?;
+        let value = appended(old, words_from(words, 2))?;
         self.write(name, &value)?;
         Ok(value)
     }

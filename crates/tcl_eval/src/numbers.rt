@@ -87,6 +87,13 @@ pub fn read_number(word: &[u8]) -> Result<i64, Kind>
     }
 }
 
+/// The number that a text is.
+pub fn number_in(text: Text) -> Result<i64, Kind>
+    ensures { result ≡ number_of text }
+{
+    read_number(text.bytes())
+}
+
 /// The text of a number.
 pub fn number_text(alloc: Global, number: i64) -> Result<Text, Memory>
     ensures { IfOk result (λ text. text ≡ signed_decimal number) }

@@ -1,11 +1,11 @@
-use Rattle.std.proofs.Common.{rules, ◌≡◌, ◌≢◌, ℕ, ◌+◌, ◌-◌, ◌≤◌, length, get_or, drop, map, slice_index_or, Some, None, Ok, Err, [], ◌∷◌, true, false, List, w64, ℤ, pos, to_z, sym, ap, subst, ◌∙◌, inl, inr, arith}
+use Rattle.std.proofs.Common.{refl, rules, ◌≡◌, ◌≢◌, ℕ, ◌+◌, ◌-◌, ◌≤◌, length, get_or, drop, map, slice_index_or, Some, None, Ok, Err, [], ◌∷◌, true, false, List, w64, ℤ, pos, to_z, sym, ap, subst, ◌∙◌, inl, inr, arith}
 use mir.Val.{SFits}
 use Rattle.std.proofs.lemmas.Result.{err_from_is_err_and}
 use Rattle.std.proofs.lemmas.Int.{to_z-of_z}
 use Rattle.std.proofs.lemmas.List.{drop_all}
 use Rattle.std.proofs.lemmas.List.Elements.{All-push}
 use Rattle.std.specs.Fmt.{signed_decimal}
-use Rattle.std.specs.Prelude.{MatchBool, neg_ℤ}
+use Rattle.std.specs.Prelude.{MatchBool, neg_ℤ, slice_range}
 use Rattle.tcl_words.specs.declared.word.Part.TheVariants.{Plain, Escape, Variable, Script}
 use Rattle.tcl_eval.specs.declared.branches.Branch.{Branch}
 use Rattle.tcl_eval.specs.Short.{AllShort, BranchLies, branching_of}
@@ -39,15 +39,15 @@ bracket_operand-returns-in_err-value-clause-evals g t c =
     let p = err_from_is_err_and c.from_residual-in_err-value.result c.from_residual-in_err-value.ensures.1 in
     rw (p.1, p.2) (rw c.if-not-live.false (expressions.bracket_halts (g.H.Host.calls c.args.line) g.H.Host.hears c.args.levels c.args.text.now c.args.at c.in_ok-end.end (seen g.H.Host.objects c.args.self.now) (seen g.H.Host.objects c.nested.new.self) c.in_err-value.field-0.0 c.requires.opening c.in_ok-end.ensures.passes c.in_err-value.ensures.evals))
 
-pub bracket_operand-returns-in_err-read_number-clause-evals : goal.bracket_operand-returns-in_err-read_number-clause-evals
-bracket_operand-returns-in_err-read_number-clause-evals g t c =
-    let p = err_from_is_err_and c.from_residual-in_err-read_number.result c.from_residual-in_err-read_number.ensures.1 in
-    rw (p.1, p.2) (rw c.if-not-live.false (expressions.bracket_fails (g.H.Host.calls c.args.line) g.H.Host.hears c.args.levels c.args.text.now c.args.at c.in_ok-end.end (seen g.H.Host.objects c.args.self.now) (seen g.H.Host.objects c.nested.new.self) c.in_ok-value.value c.in_err-read_number.field-0.0 c.requires.opening c.in_ok-end.ensures.passes c.in_ok-value.ensures.evals (rw c.bytes.ensures at c.in_err-read_number.ensures)))
+pub bracket_operand-returns-in_err-number_in-clause-evals : goal.bracket_operand-returns-in_err-number_in-clause-evals
+bracket_operand-returns-in_err-number_in-clause-evals g t c =
+    let p = err_from_is_err_and c.from_residual-in_err-number_in.result c.from_residual-in_err-number_in.ensures.1 in
+    rw (p.1, p.2) (rw c.if-not-live.false (expressions.bracket_fails (g.H.Host.calls c.args.line) g.H.Host.hears c.args.levels c.args.text.now c.args.at c.in_ok-end.end (seen g.H.Host.objects c.args.self.now) (seen g.H.Host.objects c.nested.new.self) c.in_ok-value.value c.in_err-number_in.field-0.0 c.requires.opening c.in_ok-end.ensures.passes c.in_ok-value.ensures.evals c.in_err-number_in.ensures))
 
 pub bracket_operand-returns-clause-evals : goal.bracket_operand-returns-clause-evals
 bracket_operand-returns-clause-evals g t c =
-    let f : SFits w64 c.in_ok-read_number.field-0 = search rules in
-    rw (to_z-of_z w64 c.in_ok-read_number.field-0 f) (rw c.if-not-live.false (expressions.bracket (g.H.Host.calls c.args.line) g.H.Host.hears c.args.levels c.args.text.now c.args.at c.in_ok-end.end (seen g.H.Host.objects c.args.self.now) (seen g.H.Host.objects c.nested.new.self) c.in_ok-value.value c.in_ok-read_number.field-0 c.requires.opening c.in_ok-end.ensures.passes c.in_ok-value.ensures.evals (rw c.bytes.ensures at c.in_ok-read_number.ensures)))
+    let f : SFits w64 c.in_ok-number_in.field-0 = search rules in
+    rw (to_z-of_z w64 c.in_ok-number_in.field-0 f) (rw c.if-not-live.false (expressions.bracket (g.H.Host.calls c.args.line) g.H.Host.hears c.args.levels c.args.text.now c.args.at c.in_ok-end.end (seen g.H.Host.objects c.args.self.now) (seen g.H.Host.objects c.nested.new.self) c.in_ok-value.value c.in_ok-number_in.field-0 c.requires.opening c.in_ok-end.ensures.passes c.in_ok-value.ensures.evals c.in_ok-number_in.ensures))
 
 pub command-returns-then-self-eq0-clause-evals : goal.command-returns-then-self-eq0-clause-evals
 command-returns-then-self-eq0-clause-evals g t c =
@@ -107,15 +107,15 @@ dollar_operand-returns-in_err-value-clause-evals g t c =
     let p = err_from_is_err_and c.from_residual.result c.from_residual.ensures.1 in
     rw (p.1, p.2) (rw c.if-live.true (expressions.dollar_halts (g.H.Host.calls c.args.line) g.H.Host.hears c.args.levels c.args.text.now c.args.at (seen g.H.Host.objects c.args.self.now) (seen g.H.Host.objects c.variable.new.self) c.in_err-value.field-0.0 c.requires.opening c.in_err-value.ensures.evals))
 
-pub dollar_operand-returns-in_err-read_number-clause-evals : goal.dollar_operand-returns-in_err-read_number-clause-evals
-dollar_operand-returns-in_err-read_number-clause-evals g t c =
-    let p = err_from_is_err_and c.from_residual-in_err-read_number.result c.from_residual-in_err-read_number.ensures.1 in
-    rw (p.1, p.2) (rw c.if-live.true (expressions.dollar_fails (g.H.Host.calls c.args.line) g.H.Host.hears c.args.levels c.args.text.now c.args.at (seen g.H.Host.objects c.args.self.now) (seen g.H.Host.objects c.variable.new.self) (c.in_ok-value.value, c.in_ok-value.end) c.in_err-read_number.field-0.0 c.requires.opening c.in_ok-value.ensures.evals (rw c.bytes.ensures at c.in_err-read_number.ensures)))
+pub dollar_operand-returns-in_err-number_in-clause-evals : goal.dollar_operand-returns-in_err-number_in-clause-evals
+dollar_operand-returns-in_err-number_in-clause-evals g t c =
+    let p = err_from_is_err_and c.from_residual-in_err-number_in.result c.from_residual-in_err-number_in.ensures.1 in
+    rw (p.1, p.2) (rw c.if-live.true (expressions.dollar_fails (g.H.Host.calls c.args.line) g.H.Host.hears c.args.levels c.args.text.now c.args.at (seen g.H.Host.objects c.args.self.now) (seen g.H.Host.objects c.variable.new.self) (c.in_ok-value.value, c.in_ok-value.end) c.in_err-number_in.field-0.0 c.requires.opening c.in_ok-value.ensures.evals c.in_err-number_in.ensures))
 
 pub dollar_operand-returns-then-live-clause-evals : goal.dollar_operand-returns-then-live-clause-evals
 dollar_operand-returns-then-live-clause-evals g t c =
-    let f : SFits w64 c.in_ok-read_number.field-0 = search rules in
-    rw (to_z-of_z w64 c.in_ok-read_number.field-0 f) (rw c.if-live.true (expressions.dollar (g.H.Host.calls c.args.line) g.H.Host.hears c.args.levels c.args.text.now c.args.at (seen g.H.Host.objects c.args.self.now) (seen g.H.Host.objects c.variable.new.self) (c.in_ok-value.value, c.in_ok-value.end) c.in_ok-read_number.field-0 c.requires.opening c.in_ok-value.ensures.evals (rw c.bytes.ensures at c.in_ok-read_number.ensures)))
+    let f : SFits w64 c.in_ok-number_in.field-0 = search rules in
+    rw (to_z-of_z w64 c.in_ok-number_in.field-0 f) (rw c.if-live.true (expressions.dollar (g.H.Host.calls c.args.line) g.H.Host.hears c.args.levels c.args.text.now c.args.at (seen g.H.Host.objects c.args.self.now) (seen g.H.Host.objects c.variable.new.self) (c.in_ok-value.value, c.in_ok-value.end) c.in_ok-number_in.field-0 c.requires.opening c.in_ok-value.ensures.evals c.in_ok-number_in.ensures))
 
 pub dollar_operand-returns-in_err-found-clause-evals : goal.dollar_operand-returns-in_err-found-clause-evals
 dollar_operand-returns-in_err-found-clause-evals g t c =
@@ -551,19 +551,14 @@ pub variable-returns-in_default-clause-evals : goal.variable-returns-in_default-
 variable-returns-in_default-clause-evals g t c =
     parts.no_variable (g.H.Host.calls c.args.line) g.H.Host.hears c.args.levels c.args.text.now c.args.at c.args.in_index (seen g.H.Host.objects c.args.self.now) (rw (none_of c.in_ok-found.field-0 c.in_default.not-Some) at c.in_ok-found.ensures.reference)
 
-pub variable-returns-in_err-name-clause-evals : goal.variable-returns-in_err-name-clause-evals
-variable-returns-in_err-name-clause-evals g t c =
-    let p = err_from_is_err_and c.from_residual-in_err-name.result c.from_residual-in_err-name.ensures.1 in
-    rw (p.1, p.2) (ended.free (g.H.Host.calls c.args.line) g.H.Host.hears (λ (x : List ℕ × ℕ). ValueAt x.0 x.1) c.args.levels (Named c.args.text.now c.args.at c.args.in_index) (seen g.H.Host.objects c.args.self.now) (seen g.H.Host.objects c.args.self.now))
-
-pub variable-returns-in_err-read-clause-evals : goal.variable-returns-in_err-read-clause-evals
-variable-returns-in_err-read-clause-evals g t c =
-    let p = err_from_is_err_and c.from_residual-in_err-read.result c.from_residual-in_err-read.ensures.1 in
-    rw (p.1, p.2) (parts.named_fails (g.H.Host.calls c.args.line) g.H.Host.hears g.H.Host.objects c.args.self.now c.args.levels c.args.text.now c.in_ok-name.name c.args.at c.args.in_index c.in-Some.found c.in_err-read.field-0.0 (rw c.in-Some.is at c.in_ok-found.ensures.reference) (none_of c.in-Some.found.index c.in_default-index.not-Some) c.in_ok-name.ensures c.in_err-read.ensures)
+pub variable-returns-in_err-named-clause-evals : goal.variable-returns-in_err-named-clause-evals
+variable-returns-in_err-named-clause-evals g t c =
+    let p = err_from_is_err_and c.from_residual-in_err-named.result c.from_residual-in_err-named.ensures.1 in
+    rw (p.1, p.2) (parts.named_fails (g.H.Host.calls c.args.line) g.H.Host.hears g.H.Host.objects c.args.self.now c.args.levels c.args.text.now (slice_range c.args.text.now c.in-Some.found.name_start c.in-Some.found.name_end) c.args.at c.args.in_index c.in-Some.found c.in_err-named.field-0.0 (rw c.in-Some.is at c.in_ok-found.ensures.reference) (none_of c.in-Some.found.index c.in_default-index.not-Some) refl c.in_err-named.ensures)
 
 pub variable-returns-in_default-index-clause-evals : goal.variable-returns-in_default-index-clause-evals
 variable-returns-in_default-index-clause-evals g t c =
-    parts.named_ends (g.H.Host.calls c.args.line) g.H.Host.hears g.H.Host.objects c.args.self.now c.args.levels c.args.text.now c.in_ok-name.name c.in_ok-read.field-0 c.args.at c.args.in_index c.in-Some.found (rw c.in-Some.is at c.in_ok-found.ensures.reference) (none_of c.in-Some.found.index c.in_default-index.not-Some) c.in_ok-name.ensures c.in_ok-read.ensures
+    parts.named_ends (g.H.Host.calls c.args.line) g.H.Host.hears g.H.Host.objects c.args.self.now c.args.levels c.args.text.now (slice_range c.args.text.now c.in-Some.found.name_start c.in-Some.found.name_end) c.in_ok-named.field-0 c.args.at c.args.in_index c.in-Some.found (rw c.in-Some.is at c.in_ok-found.ensures.reference) (none_of c.in-Some.found.index c.in_default-index.not-Some) refl c.in_ok-named.ensures
 
 pub variable-returns-in_err-levels-clause-evals : goal.variable-returns-in_err-levels-clause-evals
 variable-returns-in_err-levels-clause-evals g t c =
@@ -580,19 +575,19 @@ variable-returns-in_err-indexed_name-clause-evals g t c =
     let p = err_from_is_err_and c.from_residual-in_err-indexed_name.result c.from_residual-in_err-indexed_name.ensures.1 in
     rw (p.1, p.2) (ended.free (g.H.Host.calls c.args.line) g.H.Host.hears (λ (x : List ℕ × ℕ). ValueAt x.0 x.1) c.args.levels (Named c.args.text.now c.args.at c.args.in_index) (seen g.H.Host.objects c.args.self.now) (seen g.H.Host.objects c.substitute.new.self))
 
-pub variable-returns-in_err-name-2-clause-evals : goal.variable-returns-in_err-name-2-clause-evals
-variable-returns-in_err-name-2-clause-evals g t c =
-    let p = err_from_is_err_and c.from_residual-in_err-name-2.result c.from_residual-in_err-name-2.ensures.1 in
-    rw (p.1, p.2) (parts.index_long (g.H.Host.calls c.args.line) g.H.Host.hears c.args.levels c.in_ok-levels.levels c.args.text.now c.in_ok-index.index c.in_ok-indexed_name.field-0 c.args.at c.args.in_index (seen g.H.Host.objects c.args.self.now) (seen g.H.Host.objects c.substitute.new.self) c.in-Some.found c.in-Some-index.index c.in_err-name-2.field-0.0 (rw c.in-Some.is at c.in_ok-found.ensures.reference) c.in-Some-index.is c.in_ok-levels.ensures.deeper (rw c.as_slice.ensures at c.in_ok-index.ensures.evals) (rw c.bytes.ensures at c.in_ok-indexed_name.ensures.name) c.in_err-name-2.ensures.long)
+pub variable-returns-in_err-name-clause-evals : goal.variable-returns-in_err-name-clause-evals
+variable-returns-in_err-name-clause-evals g t c =
+    let p = err_from_is_err_and c.from_residual-in_err-name.result c.from_residual-in_err-name.ensures.1 in
+    rw (p.1, p.2) (parts.index_long (g.H.Host.calls c.args.line) g.H.Host.hears c.args.levels c.in_ok-levels.levels c.args.text.now c.in_ok-index.index c.in_ok-indexed_name.field-0 c.args.at c.args.in_index (seen g.H.Host.objects c.args.self.now) (seen g.H.Host.objects c.substitute.new.self) c.in-Some.found c.in-Some-index.index c.in_err-name.field-0.0 (rw c.in-Some.is at c.in_ok-found.ensures.reference) c.in-Some-index.is c.in_ok-levels.ensures.deeper (rw c.as_slice.ensures at c.in_ok-index.ensures.evals) (rw c.bytes.ensures at c.in_ok-indexed_name.ensures.name) c.in_err-name.ensures.long)
 
-pub variable-returns-in_err-read-2-clause-evals : goal.variable-returns-in_err-read-2-clause-evals
-variable-returns-in_err-read-2-clause-evals g t c =
-    let p = err_from_is_err_and c.from_residual-in_err-read-2.result c.from_residual-in_err-read-2.ensures.1 in
-    rw (p.1, p.2) (parts.indexed_fails (g.H.Host.calls c.args.line) g.H.Host.hears g.H.Host.objects c.substitute.new.self c.args.levels c.in_ok-levels.levels c.args.text.now c.in_ok-index.index c.in_ok-name-2.name c.args.at c.args.in_index (seen g.H.Host.objects c.args.self.now) c.in-Some.found c.in-Some-index.index c.in_err-read-2.field-0.0 (rw c.in-Some.is at c.in_ok-found.ensures.reference) c.in-Some-index.is c.in_ok-levels.ensures.deeper (rw c.as_slice.ensures at c.in_ok-index.ensures.evals) (c.in_ok-name-2.ensures.value.0 ∙ (rw c.bytes.ensures at c.in_ok-indexed_name.ensures.name)) (subst (λ (x : List ℕ). length x ≤ 65536) (sym c.in_ok-name-2.ensures.value.0) c.in_ok-name-2.ensures.value.1) c.in_err-read-2.ensures)
+pub variable-returns-in_err-read-clause-evals : goal.variable-returns-in_err-read-clause-evals
+variable-returns-in_err-read-clause-evals g t c =
+    let p = err_from_is_err_and c.from_residual-in_err-read.result c.from_residual-in_err-read.ensures.1 in
+    rw (p.1, p.2) (parts.indexed_fails (g.H.Host.calls c.args.line) g.H.Host.hears g.H.Host.objects c.substitute.new.self c.args.levels c.in_ok-levels.levels c.args.text.now c.in_ok-index.index c.in_ok-name.name c.args.at c.args.in_index (seen g.H.Host.objects c.args.self.now) c.in-Some.found c.in-Some-index.index c.in_err-read.field-0.0 (rw c.in-Some.is at c.in_ok-found.ensures.reference) c.in-Some-index.is c.in_ok-levels.ensures.deeper (rw c.as_slice.ensures at c.in_ok-index.ensures.evals) (c.in_ok-name.ensures.value.0 ∙ (rw c.bytes.ensures at c.in_ok-indexed_name.ensures.name)) (subst (λ (x : List ℕ). length x ≤ 65536) (sym c.in_ok-name.ensures.value.0) c.in_ok-name.ensures.value.1) c.in_err-read.ensures)
 
 pub variable-returns-clause-evals : goal.variable-returns-clause-evals
 variable-returns-clause-evals g t c =
-    parts.indexed_ends (g.H.Host.calls c.args.line) g.H.Host.hears g.H.Host.objects c.substitute.new.self c.args.levels c.in_ok-levels.levels c.args.text.now c.in_ok-index.index c.in_ok-name-2.name c.in_ok-read-2.field-0 c.args.at c.args.in_index (seen g.H.Host.objects c.args.self.now) c.in-Some.found c.in-Some-index.index (rw c.in-Some.is at c.in_ok-found.ensures.reference) c.in-Some-index.is c.in_ok-levels.ensures.deeper (rw c.as_slice.ensures at c.in_ok-index.ensures.evals) (c.in_ok-name-2.ensures.value.0 ∙ (rw c.bytes.ensures at c.in_ok-indexed_name.ensures.name)) (subst (λ (x : List ℕ). length x ≤ 65536) (sym c.in_ok-name-2.ensures.value.0) c.in_ok-name-2.ensures.value.1) c.in_ok-read-2.ensures
+    parts.indexed_ends (g.H.Host.calls c.args.line) g.H.Host.hears g.H.Host.objects c.substitute.new.self c.args.levels c.in_ok-levels.levels c.args.text.now c.in_ok-index.index c.in_ok-name.name c.in_ok-read.field-0 c.args.at c.args.in_index (seen g.H.Host.objects c.args.self.now) c.in-Some.found c.in-Some-index.index (rw c.in-Some.is at c.in_ok-found.ensures.reference) c.in-Some-index.is c.in_ok-levels.ensures.deeper (rw c.as_slice.ensures at c.in_ok-index.ensures.evals) (c.in_ok-name.ensures.value.0 ∙ (rw c.bytes.ensures at c.in_ok-indexed_name.ensures.name)) (subst (λ (x : List ℕ). length x ≤ 65536) (sym c.in_ok-name.ensures.value.0) c.in_ok-name.ensures.value.1) c.in_ok-read.ensures
 
 pub whole-returns-in_err-value-clause-evals : goal.whole-returns-in_err-value-clause-evals
 whole-returns-in_err-value-clause-evals g t c =
