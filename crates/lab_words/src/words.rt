@@ -25,17 +25,16 @@ fn matches<'a>(alloc: Global, words: &'a [String]) -> Result<ArgMatches<'a>, Err
     ensures rows { IfOk result (λ m. rows_of (found_of m) ≡ matches_of command_line (map string_bytes words.now)) }
     ensures faults { FailsBy (fault_of command_line (map string_bytes words.now)) result }
 {
-    let cost = Arg::new(alloc, "cost").long("cost").default_value("trunk");
-    let dir = Arg::new(alloc, "dir").long("dir");
-    let number = Arg::new(alloc, "gen")
-        .long("gen")
-        .value_parser(value_parser!(u64));
     let command = Command::new(alloc, "labctl")
         .no_binary_name(true)
         .disable_help_flag(true)
-        .arg(cost)?
-        .arg(dir)?
-        .arg(number)?;
+        .arg(Arg::new(alloc, "cost").long("cost").default_value("trunk"))?
+        .arg(Arg::new(alloc, "dir").long("dir"))?
+        .arg(
+            Arg::new(alloc, "gen")
+                .long("gen")
+                .value_parser(value_parser!(u64)),
+        )?;
     command.try_get_matches_from(words)
 }
 

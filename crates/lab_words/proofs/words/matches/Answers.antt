@@ -21,13 +21,13 @@ is_free_here = refl
 -- the command that is built
 command_is : (c : goal.After-try_get_matches_from) → app_of c.in_ok-command.command ≡ command_line
 command_is c =
-    let cost_is : rule_of c.default_value-cost.result ≡ option_rule (codes "cost") (codes "trunk" ∷ []) = search rules in
-    let dir_is : rule_of c.long-dir.result ≡ option_rule (codes "dir") [] = search rules in
-    let number_is : rule_of c.value_parser-number.result ≡ number_rule = search rules in
+    let cost_is : rule_of c.default_value.result ≡ option_rule (codes "cost") (codes "trunk" ∷ []) = search rules in
+    let dir_is : rule_of c.long-2.result ≡ option_rule (codes "dir") [] = search rules in
+    let number_is : rule_of c.value_parser-2.result ≡ number_rule = search rules in
     let bare_is : app_of c.disable_help_flag.result ≡ bare =
     ap app_of_fields c.disable_help_flag.ensures
     ∙ (ap (λ (x : Command-F Command). app_of_fields (record x { disable_help_flag = true })) c.no_binary_name.ensures
-    ∙ ap (on_top (λ s. record s { no_binary_name = true; disable_help_flag = true })) c.new-4.ensures.app) in
+    ∙ ap (on_top (λ s. record s { no_binary_name = true; disable_help_flag = true })) c.new.ensures.app) in
     c.in_ok-command.ensures.shape (search rules)
     ∙ ap₂ with_rule (c.in_ok-arg-2.ensures.shape (search rules)
     ∙ ap₂ with_rule (c.in_ok-arg.ensures.shape (search rules) ∙ ap₂ with_rule bare_is cost_is) dir_is) number_is
