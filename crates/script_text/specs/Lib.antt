@@ -1,4 +1,5 @@
 pub mod Heads
+pub mod Pieces
 pub mod Commands
 pub mod Taking
 pub mod Blocks

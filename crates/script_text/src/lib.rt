@@ -9,10 +9,12 @@ mod command;
 mod drill_heads;
 mod heads;
 mod next;
+mod pieces;
 mod played;
 mod replies;
 mod reply;
 mod served;
+mod words;
 
 pub use command::Command;
 pub use heads::{MAX_LINES, MAX_MOMENT};

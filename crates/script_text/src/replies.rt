@@ -1,90 +1,70 @@
 ghost use Rattle.std.specs.Prelude.{◌≡◌, ◌++◌, ◌∷◌, [], codes, decimal, IfOk, OnOk};
 ghost use Rattle.std.specs.List.{flat_map};
 ghost use Rattle.lab_base.specs.declared.what.What.TheVariants as whats;
-ghost use Rattle.script_text.specs.Replies.{phase_word, named_line, fault_line, two_line, lab_line, exp_line, boot_word, rule_word, end_word, what_words, trouble_line, failed_line, infeasible_line, tag_line, placed_lines, shown_lines, solved_lines, played_lines, text_of};
+ghost use Rattle.script_text.specs.Replies.{named_line, fault_line, two_line, lab_line, exp_line, what_words, trouble_line, failed_line, infeasible_line, tag_line, placed_lines, shown_lines, solved_lines, played_lines, text_of};
 ghost use Rattle.script_text.specs.Replies.{kind_word, wait_line, row_line, audit_line, audit_lines};
 
+use crate::pieces::Piece::{Bytes, Number};
+use crate::pieces::{add_all, joined};
+use crate::words::{boot_word, end_word, rule_word};
 use crate::{AuditLine, FailedEnd, PhaseWord, Placed, Reply, StatusLine, TagLine};
 use lab_base::{Boot, Memory, Name, Text, TextFault, VlanId, What};
 use std::alloc::Global;
 use virt_topo::Broken;
 
-impl PhaseWord {
-    /// The word of a reply.
-    pub fn word(self) -> &'static str
-        ensures { result.now ≡ phase_word self }
-    {
-        match self {
-            PhaseWord::Out => "out",
-            PhaseWord::In => "in",
-            PhaseWord::Moving => "moving",
-        }
-    }
-}
-
-fn named(alloc: Global, words: &[u8], name: &Name) -> Result<Text, Memory>
+fn named<'a>(alloc: Global, words: &'a [u8], name: &'a Name) -> Result<Text, Memory>
     ensures { IfOk result (λ text. text ≡ named_line words.now name.now) }
 {
-    let mut text = Text::from_slice(alloc, words)?;
-    text.push_bytes(name.bytes())?;
-    text.push(b'\n')?;
-    Ok(text)
-}
-
-fn add_fault(text: &mut Text, fault: TextFault) -> Result<(), Memory>
-    ensures { OnOk result (text.new ≡ fault_line text.old fault) }
-{
-    text.push_number(fault.line.into())?;
-    text.push(b' ')?;
-    text.push_bytes(fault.kind.word().as_bytes())?;
-    text.push(b'\n')
-}
-
-fn add_two(text: &mut Text, first: u32, second: u32) -> Result<(), Memory>
-    ensures { OnOk result (text.new ≡ two_line text.old first second) }
-{
-    text.push_number(first.into())?;
-    text.push(b' ')?;
-    text.push_number(second.into())?;
-    text.push(b'\n')
+    joined(alloc, &[Bytes(words), Bytes(name.bytes()), Bytes(b"\n")])
 }
 
 fn lab(alloc: Global, switches: u16, nodes: u16, trunks: u16) -> Result<Text, Memory>
     ensures { IfOk result (λ text. text ≡ lab_line switches nodes trunks) }
 {
-    let mut text = Text::from_slice(alloc, b"lab ")?;
-    text.push_number(switches.into())?;
-    text.push(b' ')?;
-    add_two(&mut text, nodes.into(), trunks.into())?;
-    Ok(text)
-}
-
-/// Words, a name and a blank.
-fn named_head(alloc: Global, words: &[u8], name: &Name) -> Result<Text, Memory>
-    ensures { IfOk result (λ text. text ≡ words.now ++ name.now ++ 32 ∷ []) }
-{
-    let mut text = Text::from_slice(alloc, words)?;
-    text.push_bytes(name.bytes())?;
-    text.push(b' ')?;
-    Ok(text)
+    joined(
+        alloc,
+        &[
+            Bytes(b"lab "),
+            Number(switches.into()),
+            Bytes(b" "),
+            Number(nodes.into()),
+            Bytes(b" "),
+            Number(trunks.into()),
+            Bytes(b"\n"),
+        ],
+    )
 }
 
 fn created(alloc: Global, exp: &Name, nodes: u16, segments: u16) -> Result<Text, Memory>
     ensures { IfOk result (λ text. text ≡ two_line (codes "created " ++ exp.now ++ 32 ∷ []) nodes segments) }
 {
-    let mut text = named_head(alloc, b"created ", exp)?;
-    add_two(&mut text, nodes.into(), segments.into())?;
-    Ok(text)
+    joined(
+        alloc,
+        &[
+            Bytes(b"created "),
+            Bytes(exp.bytes()),
+            Bytes(b" "),
+            Number(nodes.into()),
+            Bytes(b" "),
+            Number(segments.into()),
+            Bytes(b"\n"),
+        ],
+    )
 }
 
 fn add_tag(text: &mut Text, tag: &TagLine) -> Result<(), Memory>
     ensures { OnOk result (text.new ≡ text.old ++ tag_line tag.now) }
 {
-    text.push_bytes(b"tag ")?;
-    text.push_bytes(tag.segment.bytes())?;
-    text.push(b' ')?;
-    text.push_number(tag.vlan.0.into())?;
-    text.push(b'\n')
+    add_all(
+        text,
+        &[
+            Bytes(b"tag "),
+            Bytes(tag.segment.bytes()),
+            Bytes(b" "),
+            Number(tag.vlan.0.into()),
+            Bytes(b"\n"),
+        ],
+    )
 }
 
 fn add_tags(text: &mut Text, tags: &[TagLine]) -> Result<(), Memory>
@@ -106,99 +86,83 @@ fn add_placed(text: &mut Text, placed: &Option<Placed>) -> Result<(), Memory>
     add_tags(text, placed.tags.as_slice())
 }
 
-fn shown(
+/// The line behind a text in a reply.
+fn add_end(text: &mut Text, exp: &Name) -> Result<(), Memory>
+    ensures { OnOk result (text.new ≡ text.old ++ codes "end " ++ exp.now ++ 10 ∷ []) }
+{
+    add_all(text, &[Bytes(b"end "), Bytes(exp.bytes()), Bytes(b"\n")])
+}
+
+fn shown<'a>(
     alloc: Global,
-    exp: &Name,
+    exp: &'a Name,
     phase: PhaseWord,
-    top: &Text,
+    top: &'a Text,
     placed: &Option<Placed>,
 ) -> Result<Text, Memory>
     ensures { IfOk result (λ text. text ≡ shown_lines exp.now phase top.now placed.now) }
 {
-    let mut text = named_head(alloc, b"show ", exp)?;
-    text.push_bytes(phase.word().as_bytes())?;
-    text.push(b'\n')?;
-    text.push_bytes(top.bytes())?;
+    let mut text = joined(
+        alloc,
+        &[
+            Bytes(b"show "),
+            Bytes(exp.bytes()),
+            Bytes(b" "),
+            Bytes(phase.word().as_bytes()),
+            Bytes(b"\n"),
+            Bytes(top.bytes()),
+        ],
+    )?;
     add_placed(&mut text, placed)?;
-    text.push_bytes(b"end ")?;
-    text.push_bytes(exp.bytes())?;
-    text.push(b'\n')?;
+    add_end(&mut text, exp)?;
     Ok(text)
 }
 
 /// The text of a search's solution, behind the words `least` or `local`.
-fn solved(
+fn solved<'a>(
     alloc: Global,
-    words: &[u8],
-    exp: &Name,
+    words: &'a [u8],
+    exp: &'a Name,
     cost: u64,
-    solution: &Text,
+    solution: &'a Text,
 ) -> Result<Text, Memory>
     ensures { IfOk result (λ text. text ≡ solved_lines words.now exp.now cost solution.now) }
 {
-    let mut text = named_head(alloc, words, exp)?;
-    text.push_number(cost)?;
-    text.push(b'\n')?;
-    text.push_bytes(solution.bytes())?;
-    text.push_bytes(b"end ")?;
-    text.push_bytes(exp.bytes())?;
-    text.push(b'\n')?;
+    let mut text = joined(
+        alloc,
+        &[
+            Bytes(words),
+            Bytes(exp.bytes()),
+            Bytes(b" "),
+            Number(cost),
+            Bytes(b"\n"),
+            Bytes(solution.bytes()),
+        ],
+    )?;
+    add_end(&mut text, exp)?;
     Ok(text)
-}
-
-fn boot_word(boot: Boot) -> &'static str
-    ensures { result.now ≡ boot_word boot }
-{
-    match boot {
-        Boot::Off => "OFF",
-        Boot::Shutdown => "SHUTDOWN",
-        Boot::Booting => "BOOTING",
-        Boot::TbSetup => "TBSETUP",
-        Boot::IsUp => "ISUP",
-    }
-}
-
-fn rule_word(rule: Broken) -> &'static str
-    ensures { result.now ≡ rule_word rule }
-{
-    match rule {
-        Broken::F1 => "F1",
-        Broken::F2 => "F2",
-        Broken::F3 => "F3",
-        Broken::F4 => "F4",
-        Broken::F5 => "F5",
-        Broken::F6 => "F6",
-        Broken::F7 => "F7",
-        Broken::F8 => "F8",
-    }
-}
-
-fn end_word(end: FailedEnd) -> &'static str
-    ensures { result.now ≡ end_word end }
-{
-    match end {
-        FailedEnd::Out => "out",
-        FailedEnd::In => "in",
-        FailedEnd::Stuck => "stuck",
-    }
 }
 
 fn add_boots(text: &mut Text, node: &Name, from: Boot, to: Boot) -> Result<(), Memory>
     ensures { OnOk result (text.new ≡ text.old ++ what_words (whats.Unlawful node.now from to)) }
 {
-    text.push_bytes(b"boot ")?;
-    text.push_bytes(node.bytes())?;
-    text.push(b' ')?;
-    text.push_bytes(boot_word(from).as_bytes())?;
-    text.push(b' ')?;
-    text.push_bytes(boot_word(to).as_bytes())
+    add_all(
+        text,
+        &[
+            Bytes(b"boot "),
+            Bytes(node.bytes()),
+            Bytes(b" "),
+            Bytes(boot_word(from).as_bytes()),
+            Bytes(b" "),
+            Bytes(boot_word(to).as_bytes()),
+        ],
+    )
 }
 
 fn add_named(text: &mut Text, words: &[u8], name: &Name) -> Result<(), Memory>
     ensures { OnOk result (text.new ≡ text.old ++ words.now ++ name.now) }
 {
-    text.push_bytes(words)?;
-    text.push_bytes(name.bytes())
+    add_all(text, &[Bytes(words), Bytes(name.bytes())])
 }
 
 fn add_what(text: &mut Text, what: &What) -> Result<(), Memory>
@@ -215,9 +179,16 @@ fn add_what(text: &mut Text, what: &What) -> Result<(), Memory>
 fn failed(alloc: Global, exp: &Name, end: FailedEnd, what: &What) -> Result<Text, Memory>
     ensures { IfOk result (λ text. text ≡ failed_line exp.now end what.now) }
 {
-    let mut text = named_head(alloc, b"failed ", exp)?;
-    text.push_bytes(end_word(end).as_bytes())?;
-    text.push(b' ')?;
+    let mut text = joined(
+        alloc,
+        &[
+            Bytes(b"failed "),
+            Bytes(exp.bytes()),
+            Bytes(b" "),
+            Bytes(end_word(end).as_bytes()),
+            Bytes(b" "),
+        ],
+    )?;
     add_what(&mut text, what)?;
     text.push(b'\n')?;
     Ok(text)
@@ -226,7 +197,10 @@ fn failed(alloc: Global, exp: &Name, end: FailedEnd, what: &What) -> Result<Text
 fn trouble(alloc: Global, exp: &Name, what: &What) -> Result<Text, Memory>
     ensures { IfOk result (λ text. text ≡ trouble_line exp.now what.now) }
 {
-    let mut text = named_head(alloc, b"trouble ", exp)?;
+    let mut text = joined(
+        alloc,
+        &[Bytes(b"trouble "), Bytes(exp.bytes()), Bytes(b" ")],
+    )?;
     add_what(&mut text, what)?;
     text.push(b'\n')?;
     Ok(text)
@@ -235,63 +209,99 @@ fn trouble(alloc: Global, exp: &Name, what: &What) -> Result<Text, Memory>
 fn recovered(alloc: Global, done: u32, stuck: u32) -> Result<Text, Memory>
     ensures { IfOk result (λ text. text ≡ two_line (codes "recovered ") done stuck) }
 {
-    let mut text = Text::from_slice(alloc, b"recovered ")?;
-    add_two(&mut text, done, stuck)?;
-    Ok(text)
+    joined(
+        alloc,
+        &[
+            Bytes(b"recovered "),
+            Number(done.into()),
+            Bytes(b" "),
+            Number(stuck.into()),
+            Bytes(b"\n"),
+        ],
+    )
 }
 
-fn infeasible(alloc: Global, exp: &Name, rule: Broken, subject: &Text) -> Result<Text, Memory>
+fn infeasible<'a>(
+    alloc: Global,
+    exp: &'a Name,
+    rule: Broken,
+    subject: &'a Text,
+) -> Result<Text, Memory>
     ensures { IfOk result (λ text. text ≡ infeasible_line exp.now rule subject.now) }
 {
-    let mut text = named_head(alloc, b"infeasible ", exp)?;
-    text.push_bytes(rule_word(rule).as_bytes())?;
-    text.push(b' ')?;
-    text.push_bytes(subject.bytes())?;
-    text.push(b'\n')?;
-    Ok(text)
+    joined(
+        alloc,
+        &[
+            Bytes(b"infeasible "),
+            Bytes(exp.bytes()),
+            Bytes(b" "),
+            Bytes(rule_word(rule).as_bytes()),
+            Bytes(b" "),
+            Bytes(subject.bytes()),
+            Bytes(b"\n"),
+        ],
+    )
 }
 
 fn full_journal(alloc: Global, length: u64) -> Result<Text, Memory>
     ensures { IfOk result (λ text. text ≡ codes "full journal " ++ decimal length ++ 10 ∷ []) }
 {
-    let mut text = Text::from_slice(alloc, b"full journal ")?;
-    text.push_number(length)?;
-    text.push(b'\n')?;
-    Ok(text)
+    joined(
+        alloc,
+        &[Bytes(b"full journal "), Number(length), Bytes(b"\n")],
+    )
 }
 
 fn bad(alloc: Global, exp: &Name, fault: TextFault) -> Result<Text, Memory>
     ensures { IfOk result (λ text. text ≡ fault_line (codes "bad " ++ exp.now ++ 32 ∷ []) fault) }
 {
-    let mut text = named_head(alloc, b"bad ", exp)?;
-    add_fault(&mut text, fault)?;
-    Ok(text)
+    joined(
+        alloc,
+        &[
+            Bytes(b"bad "),
+            Bytes(exp.bytes()),
+            Bytes(b" "),
+            Number(fault.line.into()),
+            Bytes(b" "),
+            Bytes(fault.kind.word().as_bytes()),
+            Bytes(b"\n"),
+        ],
+    )
 }
 
-fn bad_ptop(alloc: Global, fault: TextFault) -> Result<Text, Memory>
-    ensures { IfOk result (λ text. text ≡ fault_line (codes "bad ptop ") fault) }
+/// Words with the line and the kind of a fault behind them.
+fn faulty(alloc: Global, words: &[u8], fault: TextFault) -> Result<Text, Memory>
+    ensures { IfOk result (λ text. text ≡ fault_line words.now fault) }
 {
-    let mut text = Text::from_slice(alloc, b"bad ptop ")?;
-    add_fault(&mut text, fault)?;
-    Ok(text)
+    joined(
+        alloc,
+        &[
+            Bytes(words),
+            Number(fault.line.into()),
+            Bytes(b" "),
+            Bytes(fault.kind.word().as_bytes()),
+            Bytes(b"\n"),
+        ],
+    )
 }
 
-fn bad_batch(alloc: Global, fault: TextFault) -> Result<Text, Memory>
-    ensures { IfOk result (λ text. text ≡ fault_line (codes "bad batch ") fault) }
+fn add_line(text: &mut Text, line: &StatusLine) -> Result<(), Memory>
+    ensures { OnOk result (text.new ≡ text.old ++ exp_line line.now) }
 {
-    let mut text = Text::from_slice(alloc, b"bad batch ")?;
-    add_fault(&mut text, fault)?;
-    Ok(text)
-}
-
-fn line_of(alloc: Global, line: &StatusLine) -> Result<Text, Memory>
-    ensures { IfOk result (λ text. text ≡ exp_line line.now) }
-{
-    let mut text = named_head(alloc, b"exp ", &line.exp)?;
-    text.push_bytes(line.phase.word().as_bytes())?;
-    text.push(b' ')?;
-    add_two(&mut text, line.nodes.into(), line.vlans.into())?;
-    Ok(text)
+    add_all(
+        text,
+        &[
+            Bytes(b"exp "),
+            Bytes(line.exp.bytes()),
+            Bytes(b" "),
+            Bytes(line.phase.word().as_bytes()),
+            Bytes(b" "),
+            Number(line.nodes.into()),
+            Bytes(b" "),
+            Number(line.vlans.into()),
+            Bytes(b"\n"),
+        ],
+    )
 }
 
 fn listed(alloc: Global, experiments: &[StatusLine], nodes: u16, vlans: u16) -> Result<Text, Memory>
@@ -299,31 +309,42 @@ fn listed(alloc: Global, experiments: &[StatusLine], nodes: u16, vlans: u16) -> 
 {
     let mut text = Text::new(alloc);
     for experiment in experiments {
-        let line = line_of(alloc, experiment)?;
-        text.push_bytes(line.bytes())?;
+        add_line(&mut text, experiment)?;
     }
-    let mut free = Text::from_slice(alloc, b"free ")?;
-    add_two(&mut free, nodes.into(), vlans.into())?;
-    text.push_bytes(free.bytes())?;
+    add_all(
+        &mut text,
+        &[
+            Bytes(b"free "),
+            Number(nodes.into()),
+            Bytes(b" "),
+            Number(vlans.into()),
+            Bytes(b"\n"),
+        ],
+    )?;
     Ok(text)
 }
 
-fn played(alloc: Global, exp: &Name, played: u64, last: &Text) -> Result<Text, Memory>
+fn played<'a>(alloc: Global, exp: &'a Name, played: u64, last: &'a Text) -> Result<Text, Memory>
     ensures { IfOk result (λ text. text ≡ played_lines exp.now played last.now) }
 {
-    let mut text = named_head(alloc, b"played ", exp)?;
-    text.push_number(played)?;
-    text.push(b'\n')?;
-    text.push_bytes(last.bytes())?;
-    Ok(text)
+    joined(
+        alloc,
+        &[
+            Bytes(b"played "),
+            Bytes(exp.bytes()),
+            Bytes(b" "),
+            Number(played),
+            Bytes(b"\n"),
+            Bytes(last.bytes()),
+        ],
+    )
 }
 
 fn add_kinds(text: &mut Text, kinds: &[Name]) -> Result<(), Memory>
     ensures { OnOk result (text.new ≡ text.old ++ flat_map kind_word kinds.now) }
 {
     for kind in kinds {
-        text.push(b' ')?;
-        text.push_bytes(kind.bytes())?;
+        add_all(text, &[Bytes(b" "), Bytes(kind.bytes())])?;
     }
     Ok(())
 }
@@ -338,47 +359,70 @@ fn wait(
 ) -> Result<Text, Memory>
     ensures { IfOk result (λ text. text ≡ wait_line exp.now at need have kinds.now) }
 {
-    let mut text = named_head(alloc, b"wait ", exp)?;
-    text.push_number(at)?;
-    text.push(b' ')?;
-    text.push_number(need.into())?;
-    text.push(b' ')?;
-    text.push_number(have.into())?;
+    let mut text = joined(
+        alloc,
+        &[
+            Bytes(b"wait "),
+            Bytes(exp.bytes()),
+            Bytes(b" "),
+            Number(at),
+            Bytes(b" "),
+            Number(need.into()),
+            Bytes(b" "),
+            Number(have.into()),
+        ],
+    )?;
     add_kinds(&mut text, kinds)?;
     text.push(b'\n')?;
     Ok(text)
 }
 
-fn row(alloc: Global, words: &[u8], switch: &Name, port: u16, vlan: VlanId) -> Result<Text, Memory>
-    ensures { IfOk result (λ text. text ≡ row_line words.now switch.now port vlan.0) }
+fn add_row<'a>(
+    text: &mut Text,
+    words: &'a [u8],
+    switch: &'a Name,
+    port: u16,
+    vlan: VlanId,
+) -> Result<(), Memory>
+    ensures { OnOk result (text.new ≡ text.old ++ row_line words.now switch.now port vlan.0) }
 {
-    let mut text = named_head(alloc, words, switch)?;
-    text.push_number(port.into())?;
-    text.push(b' ')?;
-    text.push_number(vlan.0.into())?;
-    text.push(b'\n')?;
-    Ok(text)
+    add_all(
+        text,
+        &[
+            Bytes(words),
+            Bytes(switch.bytes()),
+            Bytes(b" "),
+            Number(port.into()),
+            Bytes(b" "),
+            Number(vlan.0.into()),
+            Bytes(b"\n"),
+        ],
+    )
 }
 
-fn audited(alloc: Global, line: &AuditLine) -> Result<Text, Memory>
-    ensures { IfOk result (λ text. text ≡ audit_line line.now) }
+fn add_audited(text: &mut Text, line: &AuditLine) -> Result<(), Memory>
+    ensures { OnOk result (text.new ≡ text.old ++ audit_line line.now) }
 {
     match line {
-        AuditLine::Lacks { switch, port, vlan } => row(alloc, b"lacks ", switch, *port, *vlan),
-        AuditLine::Strange { switch, port, vlan } => row(alloc, b"strange ", switch, *port, *vlan),
-        AuditLine::Node { node } => named(alloc, b"node ", node),
+        AuditLine::Lacks { switch, port, vlan } => add_row(text, b"lacks ", switch, *port, *vlan),
+        AuditLine::Strange { switch, port, vlan } => {
+            add_row(text, b"strange ", switch, *port, *vlan)
+        }
+        AuditLine::Node { node } => {
+            add_all(text, &[Bytes(b"node "), Bytes(node.bytes()), Bytes(b"\n")])
+        }
     }
 }
 
 fn audit(alloc: Global, lines: &[AuditLine]) -> Result<Text, Memory>
     ensures { IfOk result (λ text. text ≡ audit_lines lines.now) }
 {
-    let mut text = Text::from_slice(alloc, b"audit ")?;
-    text.push_number(lines.len() as u64)?;
-    text.push(b'\n')?;
+    let mut text = joined(
+        alloc,
+        &[Bytes(b"audit "), Number(lines.len() as u64), Bytes(b"\n")],
+    )?;
     for line in lines {
-        let line = audited(alloc, line)?;
-        text.push_bytes(line.bytes())?;
+        add_audited(&mut text, line)?;
     }
     Ok(text)
 }
@@ -457,8 +501,8 @@ pub fn reply_text(alloc: Global, reply: &Reply) -> Result<Text, Memory>
         Reply::Busy { exp } => named(alloc, b"busy ", exp),
         Reply::NotOpen { exp } => named(alloc, b"not open ", exp),
         Reply::Bad { exp, fault } => bad(alloc, exp, *fault),
-        Reply::BadPtop { fault } => bad_ptop(alloc, *fault),
-        Reply::BadBatch { fault } => bad_batch(alloc, *fault),
+        Reply::BadPtop { fault } => faulty(alloc, b"bad ptop ", *fault),
+        Reply::BadBatch { fault } => faulty(alloc, b"bad batch ", *fault),
         Reply::FullExperiments => Text::from_slice(alloc, b"full experiments 256\n"),
         Reply::FullSwaps => Text::from_slice(alloc, b"full swaps 16\n"),
         Reply::FullJournal { length } => full_journal(alloc, *length),

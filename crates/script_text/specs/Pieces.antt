@@ -1,0 +1,10 @@
+-- The pieces of a line.
+use Rattle.std.specs.Prelude.{ℕ, List}
+use Rattle.std.specs.Fmt.{decimal}
+use Rattle.script_text.specs.declared.pieces.Piece.{Piece}
+use Rattle.script_text.specs.declared.pieces.Piece.TheVariants.{Bytes, Number}
+
+-- the bytes of a piece
+abbrev pub piece_bytes : Piece → List ℕ
+piece_bytes (Bytes bytes) = bytes.now
+piece_bytes (Number number) = decimal number
