@@ -1,6 +1,7 @@
 -- The kbps of trunks that are left to an experiment.
-use Rattle.std.specs.Prelude.{IfOk}
-use Rattle.std.proofs.Common.{◌≡◌, ℕ, ◌+◌, ◌<◌, Result, Ok, Err, Some, None, Bool, false, List, length, map, get_or, refl, ap, ◌∙◌, arith}
+use Rattle.std.proofs.Common.{◌≡◌, ℕ, ◌+◌, ◌<◌, inl, inr, Some, None, Bool, false, List, [], ◌∷◌, ◌++◌, length, map, get_or, refl, ap, sym, subst, ◌∙◌, arith}
+use Rattle.std.proofs.Math.Seq.{get_or-append_seam}
+use Rattle.std.proofs.lemmas.Bool.{cases_lt}
 use Rattle.claims.specs.declared.claim.Claim.{Claim}
 use Rattle.claims.specs.declared.claim.Entry.{Entry}
 use Rattle.claims.specs.Held.{claim_use, use_by, claim_named, others}
@@ -12,11 +13,7 @@ use Rattle.claims.proofs.Counting.{ids_free, free_to}
 use Rattle.claims.proofs.Entries.{use_rest}
 use Rattle.std.specs.Prelude.{is_none}
 use Rattle.std.specs.List.{count_by}
-use Rattle.std.proofs.lemmas.List.{length-map, get_or-map}
-
-pub if_ok_so : {T E : Type 0} (P Q : T → Type 0) (r : Result T E) → ((x : T) → P x → Q x) → IfOk r P → IfOk r Q
-if_ok_so P Q (Ok x) h p = h x p
-if_ok_so P Q (Err e) h p = tt
+use Rattle.std.proofs.lemmas.List.{length-map, get_or-map, get_or_append_left}
 
 pub left_beside_so : (kbps used left : List ℕ) (es : List Entry) (exp : List ℕ) (c : Claim) → claim_named exp es ≡ Some c → ((t : ℕ) → t < length kbps → get_or used t 0 ≡ use_by t es)
     → ((t : ℕ) → t < length kbps → get_or left t 0 + get_or used t 0 ≡ get_or kbps t 0 + claim_use t c) → (t : ℕ) → t < length kbps → get_or left t 0 + use_by t (others exp es) ≡ get_or kbps t 0
@@ -37,3 +34,13 @@ left_to_so range kbps es tables exp nodes left vlans k nodes_are len left_so vla
   room = left_so;
   ids = vlans_are ∙ ids_free range kbps es tables k;
 }
+
+-- what holds of each number, where one more is pushed
+pub pushed_so : (P : ℕ → ℕ → Type 0) (left more : List ℕ) (n x : ℕ) → length left ≡ n → ((t : ℕ) → t < n → P t (get_or left t 0)) → P n x → more ≡ left ++ x ∷ [] → (t : ℕ) → t < n + 1 → P t (get_or more t 0)
+pushed_so P left more n x len before here pushed t lt = subst (λ (l : List ℕ). P t (get_or l t 0)) (sym pushed) (elim (cases_lt t n) [
+  | inl below ↦ subst (P t) (sym (get_or_append_left left (x ∷ []) 0 t (omega (arith, below, len)))) (before t below)
+  | inr behind ↦
+      let same : t ≡ n = omega (arith, behind, lt) in
+      let last : get_or (left ++ x ∷ []) t 0 ≡ x = ap (λ (k : ℕ). get_or (left ++ x ∷ []) k 0) (same ∙ sym len) ∙ get_or-append_seam left x [] 0 in
+      subst (P t) (sym last) (subst (λ (k : ℕ). P k x) (sym same) here)
+])

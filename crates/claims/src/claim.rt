@@ -43,7 +43,12 @@ impl Claim {
     pub(crate) fn side(self, keep_new: bool) -> Claim
         ensures { result ≡ side_of keep_new self }
     {
-        let kept = if keep_new { self.new } else { self.old };
+        let (kept, gone) = if keep_new {
+            (self.new, self.old)
+        } else {
+            (self.old, self.new)
+        };
+        drop(gone);
         Claim {
             old: None,
             new: kept,

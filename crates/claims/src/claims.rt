@@ -99,7 +99,7 @@ fn put_in_place(
     ensures nodes { length tables.new.nodes.items ≡ length tables.old.nodes.items }
     ensures capacity { vec_capacity entries.new ≡ vec_capacity entries.old }
 {
-    let _old = take_off(range, entries, tables, exp);
+    drop(take_off(range, entries, tables, exp));
     put_on(range, entries, tables, exp, claim);
 }
 
@@ -129,8 +129,8 @@ impl Claims {
         Ok(Claims {
             range,
             kbps: kbps_of(alloc, lab.trunks())?,
-            entries: Vec::with_capacity(alloc, MAX_EXPERIMENTS)?,
             tables: no_tables(alloc, lab.nodes().len(), lab.trunks().len(), ids)?,
+            entries: Vec::with_capacity(alloc, MAX_EXPERIMENTS)?,
         })
     }
 
@@ -173,6 +173,6 @@ impl Claims {
     pub fn drop_claim(&mut self, exp: Name)
         ensures { self.new ≡ without exp self.old }
     {
-        let _old = take_off(self.range, &mut self.entries, &mut self.tables, exp);
+        drop(take_off(self.range, &mut self.entries, &mut self.tables, exp));
     }
 }

@@ -125,13 +125,9 @@ pub(crate) fn no_tables(
     ensures used { IfOk result (λ tables. tables.used.items ≡ replicate trunks 0) }
     ensures ids { IfOk result (λ tables. tables.ids.items ≡ replicate ids None) }
 {
-    let mut tables = Tables {
-        nodes: Vec::new(alloc),
-        used: Vec::new(alloc),
-        ids: Vec::new(alloc),
-    };
-    tables.nodes.resize(nodes, None)?;
-    tables.used.resize(trunks, 0)?;
-    tables.ids.resize(ids, None)?;
-    Ok(tables)
+    Ok(Tables {
+        nodes: vec![in alloc; None; nodes]?,
+        used: vec![in alloc; 0; trunks]?,
+        ids: vec![in alloc; None; ids]?,
+    })
 }
