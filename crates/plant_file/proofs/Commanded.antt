@@ -19,7 +19,7 @@ use Rattle.plant.specs.declared.device.Fault.{Fault}
 use Rattle.plant.specs.declared.device.Fault.TheVariants.{Failed, Stopped}
 use Rattle.plant_file.specs.declared.entry.Entry.{Entry}
 use Rattle.plant_file.specs.Entries.{answer_of}
-use Rattle.plant_file.specs.Folders.{Held, Old, past_of, more, put_text, with_steps, Sent, IsSent}
+use Rattle.plant_file.specs.Folders.{Held, Old, past_of, more, put_text, with_steps, Put, Sent, IsSent}
 use Rattle.plant_file.specs.Holding.{world_in}
 use Rattle.plant_file.specs.Lines.{tables_of_text}
 use Rattle.plant_file.specs.Standing.{Stands, IsKnown, is_beside, Fits, IsOld, OldsFit, AreOf, IsObeyed, Keeps, entries_or}
@@ -107,11 +107,26 @@ keeps_failed h op answer text fault true made keeps =
     keeps_put h op (Err fault) text made.tables made.is (subst (λ (l : List Entry). IsKnown (world_in l) (world_after w (Did op true (Err fault)))) (sym o.after_is) known) keeps
 keeps_failed h op answer text fault false made keeps = keeps_missed_command h op fault keeps
 
-keeps_by : (h now : Held) (op : DeviceOp) (answer : Answer) (text : List ℕ) (result : Result (Unit {0}) Fault) → IsMade op answer text h → Sent op answer text false result h now → Keeps h → Keeps now
+keeps_by : (h now : Held) (op : DeviceOp) (answer : Answer) (text : List ℕ) (result : Result (Unit {0}) Fault) → IsMade op answer text h → Put op answer text result h now → Keeps h → Keeps now
 keeps_by h now op answer text (Ok done) made sent keeps = subst Keeps (sym sent) (keeps_done h op answer text made keeps)
 keeps_by h now op answer text (Err Failed) made sent keeps = subst Keeps (sym sent.1) (keeps_failed h op answer text Failed sent.0 made keeps)
 keeps_by h now op answer text (Err Stopped) made (inl same) keeps = subst Keeps (sym same) keeps
 keeps_by h now op answer text (Err Stopped) made (inr sent) keeps = subst Keeps (sym sent.1) (keeps_failed h op answer text Stopped sent.0 made keeps)
+
+-- the text was made durable first
+made_durable : (op : DeviceOp) (answer : Answer) (text : List ℕ) (h : Held) → IsMade op answer text h → IsMade op answer text (record h { older = [] })
+made_durable op answer text h made = record {
+  tables = made.tables;
+  is = made.is;
+  obeyed = record { entries = made.obeyed.entries; before = made.obeyed.before; after_is = made.obeyed.after_is; answer_is = made.obeyed.answer_is };
+}
+
+keeps_now : (h : Held) → Keeps h → Keeps (record h { older = [] })
+keeps_now h keeps = record { fits = record { reads = keeps.fits.reads; known = keeps.fits.known }; olds = λ old has. absurd has }
+
+keeps_sent : (h now : Held) (op : DeviceOp) (answer : Answer) (text : List ℕ) (result : Result (Unit {0}) Fault) → IsMade op answer text h → Sent op answer text false result h now → Keeps h → Keeps now
+keeps_sent h now op answer text result made (inl put) keeps = keeps_by h now op answer text result made put keeps
+keeps_sent h now op answer text result made (inr put) keeps = keeps_by (record h { older = [] }) now op answer text result (made_durable op answer text h made) put (keeps_now h keeps)
 
 -- THE FOLDER BEHIND A COMMAND THAT WAS SENT
 pub fits_sent : (op : DeviceOp) (answer : Answer) (text : List ℕ) (stopped : Bool) (result : Result (Unit {0}) Fault) (old new : Option Held) → IsFalse stopped → ForSome old (IsMade op answer text)
@@ -120,15 +135,19 @@ fits_sent op answer text true result old new runs made sent keeps = absurd (cc r
 fits_sent op answer text false result None new runs made sent keeps = λ now some. absurd (let never : None ≡ Some now = sym sent ∙ some in cc never)
 fits_sent op answer text false result (Some h) new runs made sent keeps = λ now some.
     let same : sent.0 ≡ now = same_Some sent.0 now (sym sent.1 ∙ some) in
-    subst Keeps same (keeps_by h sent.0 op answer text result (made h refl) sent.2 (keeps h refl))
+    subst Keeps same (keeps_sent h sent.0 op answer text result (made h refl) sent.2 (keeps h refl))
 
 -- its text, where it is done
+text_put : (op : DeviceOp) (answer : Answer) (text : List ℕ) (h now : Held) → Sent op answer text false (Ok tt) h now → now.text ≡ text
+text_put op answer text h now (inl put) = ap (λ (x : Held). x.text) put
+text_put op answer text h now (inr put) = ap (λ (x : Held). x.text) put
+
 pub text_sent : (op : DeviceOp) (answer : Answer) (text : List ℕ) (stopped : Bool) (old new : Option Held) (tables : List Entry) → IsFalse stopped → tables_of_text text ≡ Ok tables → IsSent op answer text stopped (Ok tt) old new → ForSome new (AreOf tables)
 text_sent op answer text true old new tables runs is sent = absurd (cc runs)
 text_sent op answer text false None new tables runs is sent = λ now some. absurd (let never : None ≡ Some now = sym sent ∙ some in cc never)
 text_sent op answer text false (Some h) new tables runs is sent = λ now some.
     let same : sent.0 ≡ now = same_Some sent.0 now (sym sent.1 ∙ some) in
-    ap (λ (x : Held). tables_of_text x.text) (sym same) ∙ ap (λ (x : Held). tables_of_text x.text) sent.2 ∙ is
+    ap (λ (x : Held). tables_of_text x.text) (sym same) ∙ ap tables_of_text (text_put op answer text h sent.0 sent.2) ∙ is
 
 -- ITS STEPS
 
@@ -142,25 +161,33 @@ steps_one h now new false text steps is same = ap past_of is ∙ ap (λ (x : Hel
 past_nil : (past : plants.Told) → Some past ≡ plants.with_steps (Some past) []
 past_nil past = ap (λ (l : List Event). let o : Option plants.Told = Some (record past { trace = l }) in o) (sym (append-nil past.trace))
 
+done_put : (op : DeviceOp) (answer : Answer) (text : List ℕ) (h now : Held) (new : Option Held) → FitsCommand op answer → new ≡ Some now → Sent op answer text false (Ok tt) h now → Steps op false (Ok answer) (Some h) new
+done_put op answer text h now new fits is (inl put) = (Did op true (Ok answer) ∷ [], steps_one h now new true text (Did op true (Ok answer) ∷ []) is put, (fits, refl))
+done_put op answer text h now new fits is (inr put) = (Did op true (Ok answer) ∷ [], steps_one (record h { older = [] }) now new true text (Did op true (Ok answer) ∷ []) is put, (fits, refl))
+
 pub steps_done : (op : DeviceOp) (answer : Answer) (text : List ℕ) (stopped : Bool) (old new : Option Held) → IsFalse stopped → FitsCommand op answer → IsSent op answer text stopped (Ok tt) old new → Steps op stopped (Ok answer) old new
 steps_done op answer text true old new runs fits sent = absurd (cc runs)
 steps_done op answer text false None new runs fits sent = (Did op true (Ok answer) ∷ [], ap past_of sent, (fits, refl))
-steps_done op answer text false (Some h) new runs fits sent = (Did op true (Ok answer) ∷ [], steps_one h sent.0 new true text (Did op true (Ok answer) ∷ []) sent.1 sent.2, (fits, refl))
+steps_done op answer text false (Some h) new runs fits sent = done_put op answer text h sent.0 new fits sent.1 sent.2
+
+failed_put : (op : DeviceOp) (answer : Answer) (text : List ℕ) (fault : Fault) (h now : Held) (new : Option Held) → new ≡ Some now → Put op answer text (Err fault) h now → Steps op false (Err fault) (Some h) new
+failed_put op answer text Failed h now new is put =
+    let event : Event = Did op put.0 (Err Failed) in
+    (event ∷ [], steps_one h now new put.0 text (event ∷ []) is put.1, (put.0, refl))
+failed_put op answer text Stopped h now new is (inl same) = ([], ap past_of is ∙ ap (λ (x : Held). past_of (Some x)) same ∙ past_nil h.past, inl refl)
+failed_put op answer text Stopped h now new is (inr did) =
+    let event : Event = Did op did.0 (Err Stopped) in
+    (event ∷ [], steps_one h now new did.0 text (event ∷ []) is did.1, inr (did.0, refl))
+
+failed_sent : (op : DeviceOp) (answer : Answer) (text : List ℕ) (fault : Fault) (h now : Held) (new : Option Held) → new ≡ Some now → Sent op answer text false (Err fault) h now → Steps op false (Err fault) (Some h) new
+failed_sent op answer text fault h now new is (inl put) = failed_put op answer text fault h now new is put
+failed_sent op answer text fault h now new is (inr put) = let steps = failed_put op answer text fault (record h { older = [] }) now new is put in (steps.0, steps.1, steps.2)
 
 pub steps_failed : (op : DeviceOp) (answer : Answer) (text : List ℕ) (stopped : Bool) (fault : Fault) (old new : Option Held) → IsFalse stopped → IsSent op answer text stopped (Err fault) old new → Steps op stopped (Err fault) old new
 steps_failed op answer text true fault old new runs sent = absurd (cc runs)
 steps_failed op answer text false Failed None new runs sent = (Did op false (Err Failed) ∷ [], ap past_of sent, (false, refl))
 steps_failed op answer text false Stopped None new runs sent = ([], ap past_of sent, inl refl)
-steps_failed op answer text false Failed (Some h) new runs sent =
-    let event : Event = Did op sent.2.0 (Err Failed) in
-    (event ∷ [], steps_one h sent.0 new sent.2.0 text (event ∷ []) sent.1 sent.2.1, (sent.2.0, refl))
-steps_failed op answer text false Stopped (Some h) new runs sent = by sent.2
-  where
-    by : Sent op answer text false (Err Stopped) h sent.0 → Steps op false (Err Stopped) (Some h) new
-    by (inl same) = ([], ap past_of sent.1 ∙ ap (λ (x : Held). past_of (Some x)) same ∙ past_nil h.past, inl refl)
-    by (inr did) =
-        let event : Event = Did op did.0 (Err Stopped) in
-        (event ∷ [], steps_one h sent.0 new did.0 text (event ∷ []) sent.1 did.1, inr (did.0, refl))
+steps_failed op answer text false fault (Some h) new runs sent = failed_sent op answer text fault h sent.0 new sent.1 sent.2
 
 -- A COMMAND THAT WAS NOT SENT
 

@@ -1,5 +1,6 @@
 mod Commanded
 mod EntryAgain
+mod Filing
 mod Finds
 mod Fitting
 mod KeptLaws

@@ -53,11 +53,15 @@ put_text false text h = h
 
 -- WHAT A COMMAND LEAVES whose text is put in the place of the old one. Where that failed, or the folder stopped in it, the old text is there
 -- or the new one, and the command was applied by that
+abbrev pub Put : DeviceOp → Answer → List ℕ → Result (Unit {0}) Fault → Held → Held → Type 0
+Put op answer text (Ok done) h new = new ≡ more (put_text true text h) (Did op true (Ok answer) ∷ [])
+Put op answer text (Err Failed) h new = (applied : Bool) × (new ≡ more (put_text applied text h) (Did op applied (Err Failed) ∷ []))
+Put op answer text (Err Stopped) h new = (new ≡ h) ⊎ ((applied : Bool) × (new ≡ more (put_text applied text h) (Did op applied (Err Stopped) ∷ [])))
+
+-- the old text may have been made durable first
 abbrev pub Sent : DeviceOp → Answer → List ℕ → Bool → Result (Unit {0}) Fault → Held → Held → Type 0
 Sent op answer text true result h new = (result ≡ Err Stopped) × (new ≡ h)
-Sent op answer text false (Ok done) h new = new ≡ more (put_text true text h) (Did op true (Ok answer) ∷ [])
-Sent op answer text false (Err Failed) h new = (applied : Bool) × (new ≡ more (put_text applied text h) (Did op applied (Err Failed) ∷ []))
-Sent op answer text false (Err Stopped) h new = (new ≡ h) ⊎ ((applied : Bool) × (new ≡ more (put_text applied text h) (Did op applied (Err Stopped) ∷ [])))
+Sent op answer text false result h new = Put op answer text result h new ⊎ Put op answer text result (record h { older = [] }) new
 
 abbrev pub IsSent : DeviceOp → Answer → List ℕ → Bool → Result (Unit {0}) Fault → Option Held → Option Held → Type 0
 IsSent op answer text stopped result None new = new ≡ None

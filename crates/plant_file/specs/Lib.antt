@@ -1,5 +1,6 @@
 pub mod Again
 pub mod Entries
+pub mod Files
 pub mod Folders
 pub mod Holding
 pub mod Kept

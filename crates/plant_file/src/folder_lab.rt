@@ -5,6 +5,7 @@ ghost use Rattle.plant_file.specs.Folders.{IsDurable};
 ghost use Rattle.plant_file.specs.Standing.{Keeps, AreOf};
 
 use crate::folder::Folder;
+use crate::named_folder::NamedFolder;
 use crate::std_folder::StdFolder;
 use crate::tables::Tables;
 use lab_base::{Memory, TextFault};
@@ -29,18 +30,18 @@ pub struct FolderLab<F: Folder + Drop> {
 }
 
 /// The plant of a folder of std's files.
-pub type FileLab<R> = FolderLab<StdFolder<R>>;
+pub type FileLab<R> = FolderLab<NamedFolder<StdFolder<R>>>;
 
-impl<R: Files<File = File> + AllocGlobal + Clone + Drop> FolderLab<StdFolder<R>> {
+impl<R: Files<File = File> + AllocGlobal + Clone + Drop> FolderLab<NamedFolder<StdFolder<R>>> {
     /// The plant of a folder. It opens nothing.
-    pub fn new(rt: &R, dir: &str) -> Result<FolderLab<StdFolder<R>>, Memory>
+    pub fn new(rt: &R, dir: &str) -> Result<FolderLab<NamedFolder<StdFolder<R>>>, Memory>
         ensures faults { IfOk result (λ lab. lab.faults ≡ record { disk = 0; devices = 0 }) }
-        ensures names { IfOk result (λ lab. lab.folder.paths ≡ names_in dir.now) }
+        ensures names { IfOk result (λ lab. lab.folder.files.paths ≡ names_in dir.now) }
     {
         let rt = rt.clone()?;
         let alloc = rt.alloc();
         Ok(FolderLab {
-            folder: StdFolder::new(rt, dir)?,
+            folder: NamedFolder::over(alloc, StdFolder::new(rt, dir)?),
             alloc,
             kept: None,
             sure: false,
@@ -52,7 +53,7 @@ impl<R: Files<File = File> + AllocGlobal + Clone + Drop> FolderLab<StdFolder<R>>
     }
 }
 
-impl<R: Files<File = File> + AllocGlobal + Drop> FolderLab<StdFolder<R>> {
+impl<R: Files<File = File> + AllocGlobal + Drop> FolderLab<NamedFolder<StdFolder<R>>> {
     /// The first line of another form of the tables, where a call read such a text: the last one that did.
     pub fn refused(&self) -> Option<TextFault>
         ensures { result ≡ self.now.folder.refused }

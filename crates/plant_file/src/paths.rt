@@ -1,6 +1,7 @@
 ghost use Rattle.std.specs.Prelude.{◌≡◌, IfOk, string_bytes};
-ghost use Rattle.plant_file.specs.Names.{inside, name_of_side, names_in};
+ghost use Rattle.plant_file.specs.Names.{inside, name_of_side, name_of_text, names_in};
 
+use crate::folder_files::TextName;
 use lab_base::Memory;
 use plant::Side;
 use std::alloc::Global;
@@ -14,11 +15,11 @@ pub(crate) struct Paths {
     pub(crate) parent: String,
     a: String,
     b: String,
-    pub(crate) tables: String,
+    tables: String,
     /// Where the tables are written, before they take the place of the old ones.
-    pub(crate) beside: String,
+    beside: String,
     /// Where a durable text of the tables is kept, while a newer one isn't.
-    pub(crate) old: String,
+    old: String,
 }
 
 impl Model for Paths {
@@ -70,6 +71,16 @@ impl Paths {
         match side {
             Side::A => self.a.as_str(),
             Side::B => self.b.as_str(),
+        }
+    }
+    /// The file of a text.
+    pub(crate) fn text(&self, name: TextName) -> &str
+        ensures { result.now ≡ name_of_text name self.now }
+    {
+        match name {
+            TextName::Tables => self.tables.as_str(),
+            TextName::Beside => self.beside.as_str(),
+            TextName::Older => self.old.as_str(),
         }
     }
 }

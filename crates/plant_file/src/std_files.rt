@@ -1,5 +1,6 @@
 // Files of a folder, over std's.
-use std::fs::{self, File, OpenOptions};
+use crate::folder_files::Stamp;
+use std::fs::{self, File, Metadata, OpenOptions};
 use std::io::{self, Read, Seek, SeekFrom, Write};
 use std::rt::Files;
 
@@ -23,14 +24,8 @@ pub(crate) fn open<R: Files<File = File>>(rt: &R, path: &str) -> io::Result<File
     OpenOptions::new().read(true).write(true).open(rt, path)
 }
 
-/// Makes a file that is missing, and its folder where that is missing too.
-pub(crate) fn make<R: Files<File = File>>(
-    rt: &R,
-    folder: &str,
-    parent: &str,
-    path: &str,
-) -> io::Result<File> {
-    make_folder(rt, folder, parent)?;
+/// Opens a file, which is made where it is missing.
+pub(crate) fn make_file<R: Files<File = File>>(rt: &R, path: &str) -> io::Result<File> {
     OpenOptions::new()
         .read(true)
         .write(true)
@@ -38,9 +33,28 @@ pub(crate) fn make<R: Files<File = File>>(
         .open(rt, path)
 }
 
+/// Opens a file, which is made with its folder where they are missing.
+pub(crate) fn make<R: Files<File = File>>(
+    rt: &R,
+    folder: &str,
+    parent: &str,
+    path: &str,
+) -> io::Result<File> {
+    make_folder(rt, folder, parent)?;
+    make_file(rt, path)
+}
+
 /// The length of an open file.
 pub(crate) fn length_of(file: &File) -> io::Result<u64> {
     Ok(file.metadata()?.len())
+}
+
+/// The stamp of a file that has these facts.
+pub(crate) fn stamp_of(found: &Metadata) -> io::Result<Stamp> {
+    Ok(Stamp {
+        length: found.len(),
+        time: found.modified()?,
+    })
 }
 
 /// A range outside of a file.
@@ -48,12 +62,8 @@ fn outside() -> io::Error {
     io::Error::from(io::ErrorKind::InvalidInput)
 }
 
-/// Fills the buffer from that place on; the range must lie in the file.
+/// Fills the buffer from that place on. It fails where the file ends before.
 pub(crate) fn read_at(file: &mut File, at: u64, into: &mut [u8]) -> io::Result<()> {
-    match length_of(file)?.checked_sub(at) {
-        Some(left) if into.len() as u64 <= left => {}
-        _ => return Err(outside()),
-    }
     file.seek(SeekFrom::Start(at))?;
     file.read_exact(into)
 }
@@ -62,13 +72,12 @@ pub(crate) fn read_at(file: &mut File, at: u64, into: &mut [u8]) -> io::Result<(
 /// its whole range.
 pub(crate) fn write_at(file: &mut File, at: u64, bytes: &[u8]) -> io::Result<()> {
     let length = length_of(file)?;
+    let end = at.saturating_add(bytes.len() as u64);
     if length < at {
         return Err(outside());
     }
-    match at.checked_add(bytes.len() as u64) {
-        Some(end) if end <= length => {}
-        Some(end) => file.set_len(end)?,
-        None => return Err(outside()),
+    if length < end {
+        file.set_len(end)?;
     }
     file.seek(SeekFrom::Start(at))?;
     file.write_all(bytes)

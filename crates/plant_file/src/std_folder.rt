@@ -1,31 +1,28 @@
-// The files of a folder, over std's. What is here is trusted: no clause tells what std's files do.
+// The files of a folder, over std's. No clause tells what std's files do, so what is here is trusted, and decides nothing that a contract could.
 ghost use Rattle.std.specs.Prelude.{◌≡◌, ◌≢◌, Err, IfOk};
 ghost use Rattle.plant_file.specs.Names.{names_in};
 
-use crate::folder::Folder;
+use crate::folder_files::{FolderFiles, Stamp, TextName};
 use crate::paths::Paths;
-use crate::std_files::{cut_to, length_of, make, open, read_at, sync_folder, write_at};
-use crate::std_texts::{Durable, Stamp};
-use lab_base::{Memory, Name, TextFault};
+use crate::std_files::{
+    cut_to, length_of, make, make_file, open, read_at, stamp_of, sync_folder, write_at,
+};
+use lab_base::{Memory, Name};
 use plant::{Answer, DeviceOp, Fault, Faults, Side};
 use std::alloc::AllocGlobal;
-use std::fs::File;
-use std::io;
+use std::fs::{self, File};
+use std::io::{self, Write};
 use std::rt::Files;
 
 /// A folder of std's files. It tells nothing, and never stops.
 #[derive(Drop)]
 pub struct StdFolder<R: Files<File = File> + AllocGlobal + Drop> {
-    pub(crate) rt: R,
+    rt: R,
     pub(crate) paths: Paths,
     /// A file of the folder, locked from the first call on: one program at a time is at work here.
     lock: Option<File>,
     /// Whether it is durable which files the folder has.
-    pub(crate) listed: bool,
-    pub(crate) stamp: Option<Stamp>,
-    pub(crate) durable: Durable,
-    /// The first line of another form of the last text that had one.
-    pub(crate) refused: Option<TextFault>,
+    listed: bool,
 }
 
 /// An answer of std's.
@@ -35,6 +32,15 @@ fn of<T: Drop>(found: io::Result<T>) -> Result<T, Fault>
     match found {
         Ok(value) => Ok(value),
         Err(_) => Err(Fault::Failed),
+    }
+}
+
+/// None where a file is missing.
+fn if_there<T: Drop>(found: io::Result<T>) -> io::Result<Option<T>> {
+    match found {
+        Ok(value) => Ok(Some(value)),
+        Err(error) if error.kind() == io::ErrorKind::NotFound => Ok(None),
+        Err(error) => Err(error),
     }
 }
 
@@ -48,37 +54,29 @@ impl<R: Files<File = File> + AllocGlobal + Drop> StdFolder<R> {
             paths,
             lock: None,
             listed: false,
-            stamp: None,
-            durable: Durable::Unknown,
-            refused: None,
         })
-    }
-
-    /// Makes the file of a side, and the folder where that is missing too.
-    fn make_side(&mut self, side: Side) -> io::Result<File> {
-        self.listed = false;
-        let this = &*self;
-        let paths = &this.paths;
-        make(
-            &this.rt,
-            paths.folder.as_str(),
-            paths.parent.as_str(),
-            paths.side(side),
-        )
     }
 
     /// Opens a side. A file or a folder that is missing is made.
     fn open_side(&mut self, side: Side) -> io::Result<File> {
         let this = &*self;
-        match open(&this.rt, this.paths.side(side)) {
-            Err(error) if error.kind() == io::ErrorKind::NotFound => self.make_side(side),
-            opened => opened,
+        let paths = &this.paths;
+        if let Some(file) = if_there(open(&this.rt, paths.side(side)))? {
+            return Ok(file);
         }
+        let made = make(
+            &this.rt,
+            paths.folder.as_str(),
+            paths.parent.as_str(),
+            paths.side(side),
+        );
+        self.listed = false;
+        made
     }
 
     /// Locks the folder, at the first call. It fails where another program is at work there. The lock is of `journal.a`, which stays the
     /// same file, and ends with the program.
-    pub(crate) fn hold(&mut self) -> io::Result<()> {
+    fn hold(&mut self) -> io::Result<()> {
         if self.lock.is_none() {
             let file = self.open_side(Side::A)?;
             file.try_lock()?;
@@ -105,8 +103,14 @@ impl<R: Files<File = File> + AllocGlobal + Drop> StdFolder<R> {
         write_at(&mut self.side(side)?, at, bytes)
     }
 
+    /// Makes a side durable, and that it is in its folder, where that isn't known.
+    fn sync_of(&mut self, side: Side) -> io::Result<()> {
+        self.side(side)?.sync_all()?;
+        self.list()
+    }
+
     /// Makes durable which files the folder has, where it isn't known to be.
-    pub(crate) fn list(&mut self) -> io::Result<()> {
+    fn list(&mut self) -> io::Result<()> {
         if !self.listed {
             sync_folder(&self.rt, self.paths.folder.as_str())?;
             self.listed = true;
@@ -114,18 +118,62 @@ impl<R: Files<File = File> + AllocGlobal + Drop> StdFolder<R> {
         Ok(())
     }
 
-    /// Makes a side durable, and that it is in its folder.
-    fn sync_of(&mut self, side: Side) -> io::Result<()> {
-        self.side(side)?.sync_all()?;
-        self.list()
-    }
-
     fn cut_of(&mut self, side: Side, size: u64) -> io::Result<()> {
         cut_to(&self.side(side)?, size)
     }
+
+    fn bytes_of(&mut self, name: TextName) -> io::Result<Option<Vec<u8>>> {
+        self.hold()?;
+        if_there(fs::read(&self.rt, self.paths.text(name)))
+    }
+
+    fn stamp_of(&self) -> io::Result<Stamp> {
+        stamp_of(&fs::metadata(&self.rt, self.paths.text(TextName::Tables))?)
+    }
+
+    fn make_text(&mut self) -> io::Result<()> {
+        self.hold()?;
+        make_file(&self.rt, self.paths.text(TextName::Tables))?;
+        Ok(())
+    }
+
+    /// Gives a file the name of the tables.
+    fn name_of(&mut self, from: TextName) -> io::Result<()> {
+        self.hold()?;
+        let paths = &self.paths;
+        fs::rename(&self.rt, paths.text(from), paths.text(TextName::Tables))
+    }
+
+    /// Writes a text beside the tables. Its length comes before its bytes: so a file whose bytes a loss of power took has zeros.
+    fn write_text(&mut self, text: &[u8]) -> io::Result<()> {
+        self.hold()?;
+        let mut file = fs::create(&self.rt, self.paths.text(TextName::Beside))?;
+        file.set_len(text.len() as u64)?;
+        file.write_all(text)
+    }
+
+    /// Takes the name from the old text, and gives it to the one beside. No file is put over another: a file system writes such a file out
+    /// before it goes on.
+    fn rename_text(&mut self, keep: bool) -> io::Result<()> {
+        let paths = &self.paths;
+        let tables = paths.text(TextName::Tables);
+        if keep {
+            fs::rename(&self.rt, tables, paths.text(TextName::Older))?;
+        } else {
+            fs::remove_file(&self.rt, tables)?;
+        }
+        fs::rename(&self.rt, paths.text(TextName::Beside), tables)
+    }
+
+    fn sync_text(&mut self) -> io::Result<()> {
+        self.hold()?;
+        fs::open(&self.rt, self.paths.text(TextName::Tables))?.sync_all()?;
+        self.listed = false;
+        self.list()
+    }
 }
 
-impl<R: Files<File = File> + AllocGlobal + Drop> Folder for StdFolder<R> {
+impl<R: Files<File = File> + AllocGlobal + Drop> FolderFiles for StdFolder<R> {
     ghost use Rattle.std.specs.Prelude.{None, false};
 
     ghost told = { λ _. None };
@@ -154,20 +202,38 @@ impl<R: Files<File = File> + AllocGlobal + Drop> Folder for StdFolder<R> {
         of(self.cut_of(side, size))
     }
 
-    fn text(&mut self) -> Result<Vec<u8>, Fault> {
-        of(self.read_text())
+    fn bytes(&mut self, name: TextName) -> Result<Option<Vec<u8>>, Fault> {
+        of(self.bytes_of(name))
     }
 
-    fn is_as_left(&mut self) -> bool {
-        self.has_stamp()
+    fn stamp(&mut self) -> Option<Stamp> {
+        self.stamp_of().ok()
     }
 
-    fn send(&mut self, _op: &DeviceOp, _answer: Answer, text: &[u8]) -> Result<(), Fault> {
-        of(self.replace(text))
+    fn make_tables(&mut self) -> Result<(), Fault> {
+        of(self.make_text())
     }
 
-    fn sync_text(&mut self) -> Result<(), Fault> {
-        of(self.sync_tables())
+    fn name_tables(&mut self, from: TextName) -> Result<(), Fault> {
+        of(self.name_of(from))
+    }
+
+    fn write_beside(&mut self, text: &[u8]) -> Result<(), Fault> {
+        of(self.write_text(text))
+    }
+
+    fn rename(
+        &mut self,
+        _op: &DeviceOp,
+        _answer: Answer,
+        _text: &[u8],
+        keep: bool,
+    ) -> Result<(), Fault> {
+        of(self.rename_text(keep))
+    }
+
+    fn sync_tables(&mut self) -> Result<(), Fault> {
+        of(self.sync_text())
     }
 
     fn unsent(&mut self, _op: &DeviceOp) {}
@@ -175,10 +241,6 @@ impl<R: Files<File = File> + AllocGlobal + Drop> Folder for StdFolder<R> {
     fn miss(&mut self, _side: Side) {}
 
     fn unread(&mut self, _device: Name) {}
-
-    fn refused(&mut self, fault: TextFault) {
-        self.refused = Some(fault);
-    }
 
     fn mark(&mut self, _faults: Faults) -> Result<(), Memory> {
         Ok(())
