@@ -1,14 +1,10 @@
 """A lab over the folder that the command line names, as the words of lab see it."""
-import contextlib
 import os
 import sys
 
 from .codes import UNKNOWN, Wrong
-from .folder import Folder, copy, tables
+from .folder import Folder, tables
 from .running import Run
-
-# What a copy has beside the files of labctl.
-LISTS = ("off",)
 
 
 class Lab:
@@ -36,21 +32,10 @@ class Lab:
             self.folder = Folder(self.path, new, self.wait)
         return self.folder
 
-    @contextlib.contextmanager
     def copy(self):
-        """Gives another lab over a copy of the folder, which is gone behind it. Nothing changes the folder while it is copied."""
-        import tempfile
-        with tempfile.TemporaryDirectory(prefix="lab-") as room:
-            if os.path.isdir(self.path):
-                self.hold(new=True)
-                with self.server.still() if self.server else contextlib.nullcontext():
-                    copy(self.path, room, LISTS)
-            other = Lab(room, turns=self.turns, cost=self.cost, json=self.json)
-            try:
-                yield other
-            finally:
-                if other.folder:
-                    other.folder.release()
+        """Gives a context with another lab over a copy of the folder, which is gone behind it."""
+        from .copied import copied
+        return copied(self)
 
     def run(self, quiet=False, new=False, kept_back=()):
         """Gives a run of labctl that has not begun, or what takes its place where a server has the folder."""

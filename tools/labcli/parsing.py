@@ -1,8 +1,8 @@
 """The reading of a word's command line: converters, and a parser whose options may stand anywhere."""
-import argparse
 import re
 
 from .codes import USAGE, Wrong
+from .plain import argparse
 
 GREATEST_TIME = 10 ** 12
 # How the completion fills an argument in, by what the argument is called.
