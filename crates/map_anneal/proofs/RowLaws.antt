@@ -13,7 +13,7 @@ use Rattle.node_maps.specs.Marked.{marks_of}
 use Rattle.node_maps.specs.Rooms.{room_of}
 use Rattle.node_maps.proofs.Assembled.{parts_of_map}
 use Rattle.node_maps.proofs.MapLaws.{mapped_is}
-use Rattle.map_state.specs.Hosted.{IsFull, guests_at, placed_at}
+use Rattle.map_state.specs.Hosted.{IsFull, guests_at}
 use Rattle.map_state.proofs.StateLaws.{shaped_at}
 use Rattle.map_state.proofs.FullLaws.{overfull}
 use Rattle.map_state.proofs.HostingLaws.{guest_more}
@@ -41,7 +41,7 @@ full_no_less s m v below p shaped lt node typed full plugs kept =
     let allowed : ◌≡◌ {A = ℕ} (number_of (node_at s.lab (get_or (set m.places v p) v no_place).0).types (get_or (set m.places v p) v no_place).1) (number_of (node_at s.lab p.0).types p.1) = ap (λ (q : Place). number_of (node_at s.lab q.0).types q.1) there in
     let after = shaped_at s.lab s.wiring m v p shaped node typed in
     let within : v < length (set m.places v p) = omega (arith, lt, length-set m.places v p) in
-    absurd (overfull s.lab s.wiring (placed_at m v p) v after within (omega (arith, most, more, on, allowed)) (kept.shared (get_or (set m.places v p) v no_place).0.0 (after.in_nodes v no_place within)))
+    absurd (overfull s.lab s.wiring (set m.places v p) v after.places within (omega (arith, most, more, on, allowed)) (kept.shared (get_or (set m.places v p) v no_place).0.0 (after.in_nodes v no_place within)))
 
 -- a row with one more note
 pub row_noted : (s : Sought) (m : Mapping) (v number : ℕ) (row : List Bool) (known : Bool) → IsRow s m v row → number < length row

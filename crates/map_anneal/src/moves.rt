@@ -1,13 +1,17 @@
 // Moves and exchanges of virtual nodes in the map at hand.
-ghost use Rattle.std.specs.Prelude.{◌≡◌, ◌<◌, ◌≤◌, ◌↔◌, IfOk, IfSome, IsSome, OnOk, IsTrue, true, false, Some, Contains};
+ghost use Rattle.std.specs.Prelude.{◌≡◌, ◌<◌, ◌≤◌, IfOk, OnOk, IsTrue, true, false, Some, Contains};
 ghost use Rattle.std.specs.Prelude.{List, [], None, length, slice_index_or, slice_set};
 ghost use Rattle.lab_base.specs.declared.ids.IfaceId.{IfaceId as IfaceIdSeen};
 ghost use Rattle.virt_topo.specs.declared.mapping.Mapping.{Mapping as MappingSeen};
+ghost use Rattle.virt_topo.specs.Wirings.{virt_at};
 ghost use Rattle.lab_model.specs.Shapes.{Place as PlaceSeen};
 ghost use Rattle.lab_model.specs.Rules.{no_place, place_at};
+ghost use Rattle.cost_rule.specs.Cost.{soft as soft_in};
+ghost use Rattle.cost_rule.specs.declared.rule.RuleNumber.{RuleNumber as NumberSeen};
 ghost use Rattle.cost_rule.specs.Parts.{cost_of_parts, AreParts, HangsOnNoUses};
 ghost use Rattle.node_maps.specs.NodeMaps.{candidates, node_map, plugs_of};
-ghost use Rattle.map_state.specs.States.{IsMapState, IsPlanned, Was};
+ghost use Rattle.map_state.specs.States.{IsFeasibleState, IsMapState, IsPlanned, Was};
+ghost use Rattle.map_state.specs.Members.{asked_place};
 ghost use Rattle.map_state.specs.Hosted.{placed_at};
 ghost use Rattle.map_state.specs.Tables.{IsSearch};
 ghost use Rattle.map_anneal.specs.Sought.{choices, candidates_at, moved, exchanged, price};
@@ -19,7 +23,7 @@ use crate::priced::place_of;
 use crate::tried::Tried;
 use cost_rule::StepRule;
 use lab_base::{Memory, NodeId};
-use map_state::{Foretold, MapState, Search};
+use map_state::{Foretold, MapState, Outcome, Search};
 use node_maps::Place;
 use std::alloc::Global;
 
@@ -35,18 +39,6 @@ pub fn cost_of(search: &Search, rule: &StepRule, state: &MapState) -> u64
     match state.parts(search) {
         Some(parts) => rule.ask_parts(parts),
         None => rule.ask_parts(state.parts_at_rest(search)),
-    }
-}
-
-/// Whether a move that is told is told to cost at least that.
-fn is_told_over(rule: &StepRule, told: &Option<Foretold>, below: u128) -> bool
-    requires fit { IfSome told.now (λ told. AreParts told.parts) }
-    ensures some { IsTrue result → IsSome told.now }
-    ensures over { IfSome told.now (λ told. IsTrue result ↔ below ≤ cost_of_parts rule.now.number told.parts) }
-{
-    match told {
-        Some(told) => u128::from(rule.ask_parts(told.parts)) >= below,
-        None => false,
     }
 }
 
@@ -83,6 +75,22 @@ impl Tried {
             Some(parts) => u128::from(rule.ask_parts(parts)) >= below,
             None => u128::from(rule.ask_parts(self.state.parts_at_rest(search))) >= below,
         }
+    }
+
+    /// Whether places are known to cost at least that by their nodes and what is soft alone. That is asked where the cost rule ignores uses of trunks, but
+    /// not about a move that was told to cost less.
+    fn is_least_over(&self, search: &Search, rule: &StepRule, below: u128, told: bool) -> bool
+        requires search { IsSearch search.now }
+        requires state { IsMapState search.now self.now.state }
+        ensures { IsTrue result → (plugs : List IfaceIdSeen) → below
+            ≤ price (sought_of search.now rule.now.number) (record { places = self.now.state.mapping.places; plugs = plugs }) }
+    {
+        // for the prover: it tells what every lab keeps
+        let _kept = search.mapper.lab.range();
+        if told || !self.ignores_uses {
+            return false;
+        }
+        u128::from(rule.ask_parts(self.state.parts_at_rest(search))) >= below
     }
 
     /// Commits places that differ from those of a node map on two nodes alone, where the map is feasible and costs less
@@ -129,11 +137,16 @@ impl Tried {
         if self.state.is_overfull(search, first.1) {
             return Ok(false);
         }
+        if self.is_least_over(search, rule, below, told) {
+            self.weighed = true;
+            return Ok(false);
+        }
         if !self.state.plan(alloc, search, first, second)? {
             self.weighed = true;
             return Ok(false);
         }
-        if self.is_over(search, rule, first.0, second.0, below, told) {
+        let known = told || self.ignores_uses;
+        if self.is_over(search, rule, first.0, second.0, below, known) {
             self.weighed = true;
             return Ok(false);
         }
@@ -156,29 +169,30 @@ impl Tried {
         Ok(true)
     }
 
-    /// Whether a move of a virtual node to another of its candidates is known to cost at least that, whatever it uses of trunks. One that was told
-    /// to cost less isn't asked about.
-    fn is_least_over(
-        &self,
-        search: &Search,
-        rule: &StepRule,
-        node: usize,
-        place: &Place,
-        below: u128,
-        told: bool,
-    ) -> bool
+    /// What a move of a virtual node to another of its candidates comes to at least by the interfaces that the rule gives. These are its parts, where they
+    /// are told, or those but for the uses of trunks, which are enough where the cost rule ignores uses.
+    fn least_of(&self, search: &Search, node: usize, place: &Place) -> Foretold
         requires search { IsSearch search.now }
-        requires state { IsMapState search.now self.now.state }
+        requires state { IsFeasibleState search.now self.now.state }
         requires virt { node < length search.now.mapper.wiring.now.nodes }
-        requires among { Contains (candidates_at (sought_of search.now rule.now.number) node) place.now }
-        ensures { IsTrue result → (plugs : List IfaceIdSeen) → below
-            ≤ price (sought_of search.now rule.now.number) (record { places = slice_set self.now.state.mapping.places node place.now; plugs = plugs }) }
+        requires among { Contains (slice_index_or (candidates search.now.mapper.lab.now search.now.mapper.free.now search.now.mapper.wiring.now) node [])
+            place.now }
+        ensures least { (number : NumberSeen) (plugs : List IfaceIdSeen)
+            → plugs_of search.now.mapper.lab.now search.now.mapper.wiring.now (placed_at self.now.state.mapping node place.now).places ≡ Some plugs
+            → cost_of_parts number result.parts ≤ price (sought_of search.now number)
+            (record { places = (placed_at self.now.state.mapping node place.now).places; plugs = plugs }) }
+        ensures fit { AreParts result.parts }
+        ensures soft { result.parts.soft
+            ≡ soft_in search.now.mapper.lab.now search.now.mapper.wiring.now (placed_at self.now.state.mapping node place.now) }
+        ensures counted { result.counted
+            ≡ asked_place search.now.mapper.wiring.now (virt_at search.now.mapper.wiring.now node).asks place.now.1 }
     {
-        if told {
-            return false;
+        if !self.ignores_uses {
+            if let Some(told) = self.state.foretell(search, node, place) {
+                return told;
+            }
         }
-        let parts = self.state.parts_but_uses(search, node, place);
-        u128::from(rule.ask_parts(parts)) >= below
+        self.state.foretell_but_uses(search, node, place)
     }
 
     /// Moves a virtual node to another of its candidates, where the map is feasible and costs less than that: where the move isn't told to cost
@@ -208,33 +222,27 @@ impl Tried {
         ensures weighed { IfOk result (λ yes. yes ≡ false → self.new.weighed ≡ true
             → IsNoLess (sought_of search.now rule.now.number) below (slice_set self.old.state.mapping.places node place.now)) }
     {
-        let told = self.state.foretell(search, node, place);
-        if is_told_over(rule, &told, below) {
+        let least = self.least_of(search, node, place);
+        if u128::from(rule.ask_parts(least.parts)) >= below {
             self.weighed = true;
             return Ok(false);
         }
-        if self.is_least_over(search, rule, node, place, below, told.is_some()) {
-            self.weighed = true;
-            return Ok(false);
-        }
+        let told = least.whole || self.ignores_uses;
         let to = place.0;
         let old = place_of(self.state.mapping.places.as_slice(), node);
-        let soft = self.state.soft(search);
-        let counted = self.state.counted(search, node);
-        self.state.place_told(alloc, search, node, *place, told);
-        if self.commit_if_cheaper(
-            alloc,
-            search,
-            rule,
-            (to, node),
-            (old.0, node),
-            below,
-            told.is_some(),
-        )? {
+        let before = Outcome {
+            soft: self.state.soft(search),
+            counted: self.state.counted(search, node),
+        };
+        let after = Outcome {
+            soft: least.parts.soft,
+            counted: least.counted,
+        };
+        self.state.place_known(alloc, search, node, *place, after);
+        if self.commit_if_cheaper(alloc, search, rule, (to, node), (old.0, node), below, told)? {
             return Ok(true);
         }
-        self.state
-            .place_known(alloc, search, node, old, soft, counted);
+        self.state.place_known(alloc, search, node, old, before);
         Ok(false)
     }
 

@@ -24,8 +24,9 @@ fn costs_no_uses(rule: &StepRule, parts: Parts) -> bool
 }
 
 /// Lets the sums of a map rest, where no mapping can fill a trunk and the costs hang on no uses. The rule is asked twice for that: for the map's parts
-/// without the uses, and with them. Where the map uses no trunk that tells nothing, and the sums are kept.
-pub(crate) fn rest(search: &Search, rule: &StepRule, state: &mut MapState)
+/// without the uses, and with them. Where the map uses no trunk that tells nothing, and the sums are kept. The answer is whether the costs are known to
+/// hang on no uses.
+pub(crate) fn rest(search: &Search, rule: &StepRule, state: &mut MapState) -> bool
     requires search { IsSearch search.now }
     requires state { IsMapState search.now state.old }
     requires resting { state.old.sums ≡ None → HangsOnNoUses rule.now.number }
@@ -33,14 +34,16 @@ pub(crate) fn rest(search: &Search, rule: &StepRule, state: &mut MapState)
     ensures mapping { state.new.mapping ≡ state.old.mapping }
     ensures back { state.new.back.items ≡ state.old.back.items }
     ensures resting { state.new.sums ≡ None → HangsOnNoUses rule.now.number }
+    ensures ignored { IsTrue result → HangsOnNoUses rule.now.number }
 {
     // for the prover: it tells what every lab keeps
     let _kept = search.mapper.lab.range();
     let Some(parts) = state.parts(search) else {
-        return;
+        return true;
     };
     if !costs_no_uses(rule, parts) {
-        return;
+        return false;
     }
     state.rest(search);
+    true
 }

@@ -18,6 +18,8 @@ pub struct Tried {
     pub cost: u64,
     /// Of the last move that came to nothing, whether it makes no cheaper map whatever is left of the trunks.
     pub(crate) weighed: bool,
+    /// Whether the cost rule is known to ignore the uses of trunks.
+    pub(crate) ignores_uses: bool,
 }
 
 impl Tried {
@@ -36,11 +38,12 @@ impl Tried {
         let mapper = search.mapper;
         let mut state = MapState::of(alloc, search, start)?;
         let cost = rule.ask(mapper.lab, mapper.wiring, start);
-        rest(search, rule, &mut state);
+        let ignores_uses = rest(search, rule, &mut state);
         Ok(Tried {
             state,
             cost,
             weighed: false,
+            ignores_uses,
         })
     }
 

@@ -72,21 +72,20 @@ guest_in On (x ∷ vs) (p ∷ places) n (suc v) d lt le here all =
     by false all = all
 
 -- where more are there than may have the type of one of them, they may not share the node
-pub overfull : (lab : Lab) (w : Wiring) (m : Mapping) (v : ℕ) → IsShaped lab w m → v < length m.places
-    → number_of (node_at lab (get_or m.places v no_place).0).types (get_or m.places v no_place).1 < guests_at m.places (get_or m.places v no_place).0.0
-    → may_share lab w m.places (get_or m.places v no_place).0.0 ≡ true → ⊥
-overfull lab w m v shaped lt more agreed =
-    let n = (get_or m.places v no_place).0.0 in
+pub overfull : (lab : Lab) (w : Wiring) (places : List Place) (v : ℕ) → length places ≡ length w.nodes → v < length places
+    → number_of (node_at lab (get_or places v no_place).0).types (get_or places v no_place).1 < guests_at places (get_or places v no_place).0.0
+    → may_share lab w places (get_or places v no_place).0.0 ≡ true → ⊥
+overfull lab w places v count lt more agreed =
+    let n = (get_or places v no_place).0.0 in
     let types = (node_at lab (record { 0 = n })).types in
-    let count = shaped.places in
-    let few = agree_few types (guests w.nodes m.places n) agreed in
-    let le : length (guests w.nodes m.places n) ≤ number_of types (get_or m.places v no_place).1 =
-    guest_in (λ t. length (guests w.nodes m.places n) ≤ number_of types t) w.nodes m.places n v no_place lt (omega (arith, count)) refl few in
-    let whole = guests_all w.nodes m.places n (omega (arith, count)) in
+    let few = agree_few types (guests w.nodes places n) agreed in
+    let le : length (guests w.nodes places n) ≤ number_of types (get_or places v no_place).1 =
+    guest_in (λ t. length (guests w.nodes places n) ≤ number_of types t) w.nodes places n v no_place lt (omega (arith, count)) refl few in
+    let whole = guests_all w.nodes places n (omega (arith, count)) in
     absurd (omega (arith, le, whole, more))
 
 -- that is no node map
 pub overfull_no_map : (lab : Lab) (free : Free) (w : Wiring) (m : Mapping) (v : ℕ) → IsShaped lab w m → v < length m.places
     → number_of (node_at lab (get_or m.places v no_place).0).types (get_or m.places v no_place).1 < guests_at m.places (get_or m.places v no_place).0.0
     → node_map lab free w m.places ≡ None
-overfull_no_map lab free w m v shaped lt more = no_map lab free w m.places (λ plugs all. overfull lab w m v shaped lt more (all.shared (get_or m.places v no_place).0.0 (shaped.in_nodes v no_place lt)))
+overfull_no_map lab free w m v shaped lt more = no_map lab free w m.places (λ plugs all. overfull lab w m.places v shaped.places lt more (all.shared (get_or m.places v no_place).0.0 (shaped.in_nodes v no_place lt)))

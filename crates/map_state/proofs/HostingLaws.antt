@@ -181,7 +181,7 @@ removed_set (x ∷ xs) zero y = refl
 removed_set (x ∷ xs) (suc v) y = ap (λ (l : List ℕ). x ∷ l) (removed_set xs v y)
 
 -- one is there where some are counted
-any_counted : (y : ℕ) (xs : List ℕ) → cond (list_any (same_node y) xs) 0 1 ≡ one_if (eqb (guests xs y) 0)
+pub any_counted : (y : ℕ) (xs : List ℕ) → cond (list_any (same_node y) xs) 0 1 ≡ one_if (eqb (guests xs y) 0)
 any_counted y [] = refl
 any_counted y (x ∷ xs) = by (eqb y x) refl (any_counted y xs)
   where

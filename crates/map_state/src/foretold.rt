@@ -26,11 +26,13 @@ use node_maps::{NodeIface, Place};
 use std::alloc::Global;
 use trunk_sums::{Change, Sums};
 
-/// The parts of the cost after a move, and where the virtual node is counted then, if it is.
+/// The parts of the cost after a move, with the uses of trunks or without them, and where the virtual node is counted then, if it is.
 #[derive(Clone, Copy)]
 pub struct Foretold {
     pub parts: Parts,
     pub counted: Option<usize>,
+    /// Whether the uses of trunks are among the parts.
+    pub whole: bool,
 }
 
 /// The sum of the uses of all trunks once each end of a virtual node has the interface of its own place.
@@ -98,24 +100,27 @@ impl MapState {
         )
     }
 
-    /// The parts of the cost after a move of a virtual node to another of its candidates, but for the uses of trunks: what they cost is at most what the
-    /// move comes to, whatever interfaces the rule gives.
-    pub fn parts_but_uses(&self, search: &Search, virt: usize, place: &Place) -> Parts
+    /// The parts of the cost after a move of a virtual node to another of its candidates, but for the uses of trunks, and where it is counted then. What
+    /// they cost is at most what the move comes to, whatever interfaces the rule gives.
+    pub fn foretell_but_uses(&self, search: &Search, virt: usize, place: &Place) -> Foretold
         requires search { IsSearch search.now }
         requires state { IsMapState search.now self.now }
         requires virt { virt < length search.now.mapper.wiring.now.nodes }
         requires among { Contains (slice_index_or (candidates search.now.mapper.lab.now search.now.mapper.free.now search.now.mapper.wiring.now) virt [])
             place.now }
-        ensures parts { result ≡ without_uses (parts_of search.now.mapper.lab.now search.now.mapper.wiring.now (placed_at self.now.mapping virt place.now)) }
-        ensures fit { AreParts result }
-        ensures least { (number : NumberSeen) (plugs : List IfaceIdSeen) → cost_of_parts number result
+        ensures parts { result.parts
+            ≡ without_uses (parts_of search.now.mapper.lab.now search.now.mapper.wiring.now (placed_at self.now.mapping virt place.now)) }
+        ensures fit { AreParts result.parts }
+        ensures least { (number : NumberSeen) (plugs : List IfaceIdSeen) → cost_of_parts number result.parts
             ≤ cost number search.now.mapper.lab.now search.now.mapper.wiring.now
             (record { places = (placed_at self.now.mapping virt place.now).places; plugs = plugs }) }
+        ensures counted { result.counted
+            ≡ asked_place search.now.mapper.wiring.now (virt_at search.now.mapper.wiring.now virt).asks place.now.1 }
     {
         let mapper = search.mapper;
         // for the prover: it tells what every lab keeps
         let _kept = mapper.lab.range();
-        let (soft, _counted) = self.hosting.soft_after(
+        let (soft, counted) = self.hosting.soft_after(
             mapper.lab,
             mapper.wiring,
             &search.table.softs,
@@ -126,10 +131,15 @@ impl MapState {
         let nodes = self
             .hosting
             .nodes_after(mapper.lab, mapper.wiring, &self.mapping, virt, place);
-        Parts {
+        let parts = Parts {
             uses: 0,
             nodes,
             soft,
+        };
+        Foretold {
+            parts,
+            counted,
+            whole: false,
         }
     }
 
@@ -182,42 +192,10 @@ impl MapState {
             nodes: self.hosting.nodes,
             soft,
         };
-        Some(Foretold { parts, counted })
-    }
-
-    /// A virtual node goes to another of its candidates; the plugs stay. What that comes to may be told.
-    pub fn place_told(
-        &mut self,
-        alloc: Global,
-        search: &Search,
-        virt: usize,
-        place: Place,
-        told: Option<Foretold>,
-    )
-        requires search { IsSearch search.now }
-        requires state { IsMapState search.now self.old }
-        requires virt { virt < length search.now.mapper.wiring.now.nodes }
-        requires among { Contains (slice_index_or (candidates search.now.mapper.lab.now search.now.mapper.free.now search.now.mapper.wiring.now) virt [])
-            place }
-        requires soft { IfSome told (λ told. told.parts.soft
-            ≡ soft_in search.now.mapper.lab.now search.now.mapper.wiring.now (placed_at self.old.mapping virt place)) }
-        requires counted { IfSome told (λ told. told.counted
-            ≡ asked_place search.now.mapper.wiring.now (virt_at search.now.mapper.wiring.now virt).asks place.1) }
-        ensures state { IsMapState search.now self.new }
-        ensures mapping { self.new.mapping ≡ placed_at self.old.mapping virt place }
-        ensures sums { self.new.sums ≡ self.old.sums }
-        ensures back { self.new.back.items ≡ self.old.back.items }
-    {
-        match told {
-            Some(told) => self.place_known(
-                alloc,
-                search,
-                virt,
-                place,
-                told.parts.soft,
-                told.counted,
-            ),
-            None => self.place_virt(alloc, search, virt, place),
-        }
+        Some(Foretold {
+            parts,
+            counted,
+            whole: true,
+        })
     }
 }

@@ -19,6 +19,13 @@ use std::alloc::Global;
 use std::mem;
 use virt_topo::{MAX_TOPOLOGY_NODES, Mapping, Wiring};
 
+/// What is soft after a move, and where the virtual node is counted then by class and type, if it is.
+#[derive(Clone, Copy)]
+pub struct Outcome {
+    pub soft: u64,
+    pub counted: Option<usize>,
+}
+
 /// By virtual node its node, by node how many virtual nodes are on it, how many nodes are in use, by class and type how many members
 /// have it, and what is soft.
 #[derive(Drop)]
@@ -289,7 +296,7 @@ impl Hosting {
         self.soft = changed(self.soft, (after, gained), (before, lost));
     }
 
-    /// A virtual node goes to a place. What is soft then, and where it is counted then, is known.
+    /// A virtual node goes to a place. What comes of that is known.
     pub fn place_known(
         &mut self,
         alloc: Global,
@@ -298,8 +305,7 @@ impl Hosting {
         mapping: &mut Mapping,
         virt: usize,
         place: Place,
-        soft: u64,
-        counted: Option<usize>,
+        outcome: Outcome,
     )
         requires sound { IsSound wiring.now }
         requires shaped { IsShaped lab.now wiring.now mapping.old }
@@ -307,13 +313,13 @@ impl Hosting {
         requires virt { virt < length wiring.now.nodes }
         requires node { place.0.0 < length lab.now.nodes }
         requires typed { has_name (node_at lab.now place.0).types place.1 ≡ true }
-        requires soft { soft ≡ soft_in lab.now wiring.now (placed_at mapping.old virt place) }
-        requires counted { counted ≡ asked_place wiring.now (virt_at wiring.now virt).asks place.1 }
+        requires soft { outcome.soft ≡ soft_in lab.now wiring.now (placed_at mapping.old virt place) }
+        requires counted { outcome.counted ≡ asked_place wiring.now (virt_at wiring.now virt).asks place.1 }
         ensures mapping { mapping.new ≡ placed_at mapping.old virt place }
         ensures shaped { IsShaped lab.now wiring.now mapping.new }
         ensures hosting { IsHosting lab.now wiring.now mapping.new self.new }
     {
-        self.go(alloc, lab, wiring, mapping, virt, place, counted);
-        self.soft = soft;
+        self.go(alloc, lab, wiring, mapping, virt, place, outcome.counted);
+        self.soft = outcome.soft;
     }
 }

@@ -21,7 +21,7 @@ mod ties;
 
 pub use chosen::Chosen;
 pub use foretold::Foretold;
-pub use hosting::Hosting;
+pub use hosting::{Hosting, Outcome};
 pub use placing::Placing;
 pub use search::Search;
 pub use state::MapState;

@@ -1,5 +1,5 @@
 // Changes of ends made, and taken back.
-ghost use Rattle.std.specs.Prelude.{◌≡◌, ◌<◌, ◌+◌, ◌∷◌, true, [], None, length, slice_set, All, OnOk, IfSome};
+ghost use Rattle.std.specs.Prelude.{◌≡◌, ◌<◌, ◌+◌, ◌∷◌, ◌++◌, true, [], None, length, slice_set, All, OnOk, IfSome};
 ghost use Rattle.virt_topo.specs.Ends.{end_nodes};
 ghost use Rattle.virt_topo.specs.Soundness.{keeps_limits};
 ghost use Rattle.trunk_sums.specs.Between.{IsTable};
@@ -61,6 +61,17 @@ pub(crate) fn adopt(
     }
 }
 
+/// Notes what takes a change back: its end goes to the interface that it had.
+fn note_back(back: &mut Vec<Change>, change: &Change, plug: IfaceId) -> Result<(), Memory>
+    ensures { OnOk result (back.new.items ≡ back.old.items ++ record { end = change.now.end; row = change.now.row; to = plug } ∷ []) }
+{
+    let last = back.len();
+    // copied whole: a copy that is put together from its parts waits until they are stored
+    back.push(*change)?;
+    back[last].to = plug;
+    Ok(())
+}
+
 /// Makes changes, one after another, and notes what takes them back.
 pub(crate) fn remake(
     lab: &Lab,
@@ -87,11 +98,7 @@ pub(crate) fn remake(
     ensures backward { OnOk result (AreChanges lab.now wiring.now back.new.items) }
 {
     for change in changes {
-        back.push(Change {
-            end: change.end,
-            row: change.row,
-            to: plugs[change.end as usize],
-        })?;
+        note_back(back, change, plugs[change.end as usize])?;
         replug(lab, wiring, crossings, sums, plugs, *change);
     }
     Ok(())

@@ -13,7 +13,7 @@ ghost use Rattle.map_state.specs.Tables.{IsSearch};
 
 use crate::full::is_taken;
 use crate::give::give;
-use crate::hosting::Hosting;
+use crate::hosting::{Hosting, Outcome};
 use crate::remake::{remake, revert};
 use crate::search::Search;
 use crate::spare::are_spare;
@@ -267,23 +267,22 @@ impl MapState {
         self.hosting.members.counted(virt)
     }
 
-    /// A virtual node goes to another of its candidates; the plugs stay. What is soft then, and where it is counted then, is known.
+    /// A virtual node goes to another of its candidates; the plugs stay. What comes of that is known.
     pub fn place_known(
         &mut self,
         alloc: Global,
         search: &Search,
         virt: usize,
         place: Place,
-        soft: u64,
-        counted: Option<usize>,
+        outcome: Outcome,
     )
         requires search { IsSearch search.now }
         requires state { IsMapState search.now self.old }
         requires virt { virt < length search.now.mapper.wiring.now.nodes }
         requires among { Contains (slice_index_or (candidates search.now.mapper.lab.now search.now.mapper.free.now search.now.mapper.wiring.now) virt [])
             place }
-        requires soft { soft ≡ soft_in search.now.mapper.lab.now search.now.mapper.wiring.now (placed_at self.old.mapping virt place) }
-        requires counted { counted ≡ asked_place search.now.mapper.wiring.now (virt_at search.now.mapper.wiring.now virt).asks place.1 }
+        requires soft { outcome.soft ≡ soft_in search.now.mapper.lab.now search.now.mapper.wiring.now (placed_at self.old.mapping virt place) }
+        requires counted { outcome.counted ≡ asked_place search.now.mapper.wiring.now (virt_at search.now.mapper.wiring.now virt).asks place.1 }
         ensures state { IsMapState search.now self.new }
         ensures mapping { self.new.mapping ≡ placed_at self.old.mapping virt place }
         ensures sums { self.new.sums ≡ self.old.sums }
@@ -297,8 +296,7 @@ impl MapState {
             &mut self.mapping,
             virt,
             place,
-            soft,
-            counted,
+            outcome,
         );
     }
 

@@ -2,13 +2,14 @@
 ghost use Rattle.std.specs.Prelude.{◌≡◌, ◌<◌, ◌≤◌, ◌==◌, ◌++◌, ℕ, true, false, length, replicate, IfOk, OnOk, IsTrue, IsFalse};
 ghost use Rattle.phys_lab.specs.Sides.{joined};
 ghost use Rattle.virt_topo.specs.Soundness.{IsSound};
+ghost use Rattle.cost_rule.specs.Cost.{soft_at};
 ghost use Rattle.node_maps.specs.NodeMaps.{ends_of};
 ghost use Rattle.map_state.specs.Nodes.{numbers_of};
 ghost use Rattle.map_state.specs.Tables.{AreAllJoined, AreFirsts, AreRows, AreOwn, IsTableOf};
 
 use crate::softs::Softs;
 use crate::ties::{Tie, ties_of};
-use lab_base::{Items, Memory, SwitchId};
+use lab_base::{Items, Memory, NodeId, SwitchId};
 use node_maps::End;
 use phys_lab::Lab;
 use std::alloc::Global;
@@ -153,5 +154,16 @@ impl Table {
             joined,
             softs,
         })
+    }
+
+    /// The soft weight of a virtual node on a node.
+    pub fn soft_at(&self, lab: &Lab, wiring: &Wiring, virt: usize, node: NodeId) -> u64
+        requires table { IsTableOf lab.now wiring.now self.now }
+        requires virt { virt < length wiring.now.nodes }
+        requires node { node.0 < length lab.now.nodes }
+        ensures sum { result ≡ soft_at lab.now wiring.now virt node }
+        ensures small { result < 65_536 }
+    {
+        self.softs.at(lab, wiring, virt, node)
     }
 }

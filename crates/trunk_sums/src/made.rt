@@ -15,11 +15,11 @@ use lab_base::IfaceId;
 use phys_lab::Lab;
 use virt_topo::Wiring;
 
-/// A change of plug: an end goes to another interface.
+/// A change of plug: an end goes to another interface. The row stands first, since a change that is copied with gaps between its fields is copied slowly.
 #[derive(Clone, Copy)]
 pub struct Change {
-    pub end: u16,
     pub row: EndRow,
+    pub end: u16,
     pub to: IfaceId,
 }
 

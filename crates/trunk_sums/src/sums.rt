@@ -12,9 +12,9 @@ use virt_topo::{MAX_ENDS, MAX_KBPS, MAX_SEGMENT_ENDS, Wiring};
 /// The segment of an end, the number of ends there, and its kbps.
 #[derive(Clone, Copy)]
 pub struct EndRow {
+    pub kbps: u64,
     pub segment: u16,
     pub ends: u16,
-    pub kbps: u64,
 }
 
 /// Running sums of a mapping.

@@ -1,6 +1,7 @@
 use Rattle.std.proofs.Common.{◌≡◌, subst}
 use Rattle.std.specs.Prelude.{IfSome}
 use Rattle.cost_rule.specs.Parts.{parts_of}
+use Rattle.map_anneal.proofs.Rests.{rests}
 use Rattle.map_anneal.proofs.resting.rest.Goals as goal
 
 pub costs_no_uses-requires : goal.costs_no_uses-requires
@@ -19,3 +20,10 @@ costs_no_uses-requires g c =
 
 pub returns-clause-resting : goal.returns-clause-resting
 returns-clause-resting g c = λ none. c.costs_no_uses.ensures c.if-not-costs_no_uses.false
+
+-- where the sums rest the costs hang on no uses
+pub returns-in_default-clause-ignored : goal.returns-in_default-clause-ignored
+returns-in_default-clause-ignored g c = λ is. c.requires.resting (rests c.parts.result c.args.state.now.sums c.parts.ensures.told c.in_default.is)
+
+pub returns-clause-ignored : goal.returns-clause-ignored
+returns-clause-ignored g c = λ is. c.costs_no_uses.ensures c.if-not-costs_no_uses.false

@@ -38,8 +38,8 @@ loop-change-preserved c =
     let in_all = in_ends w.segments x.row.segment x.end (is_in w x.end x.row row) in
     let lt : x.end < length old = omega (arith, in_all, c.requires.plugged, inv.plugged) in
     let was : IfaceId = get_or old x.end (record { 0 = 0 }) in
-    let noted : c.push.new.self.items ≡ c.loop-change.back.items ++ record { end = x.end; row = x.row; to = was } ∷ [] =
-    c.in_ok-push.ensures.items ∙ ap (λ (i : IfaceId). c.loop-change.back.items ++ record { end = x.end; row = x.row; to = i } ∷ []) (get_or_read old x.end c.index.result.now lt c.index.ensures (record { 0 = 0 })) in
+    let noted : c.note_back.new.back.items ≡ c.loop-change.back.items ++ record { end = x.end; row = x.row; to = was } ∷ [] =
+    c.in_ok-note_back.ensures ∙ ap (λ (i : IfaceId). c.loop-change.back.items ++ record { end = x.end; row = x.row; to = i } ∷ []) (get_or_read old x.end c.index.result.now lt c.index.ensures (record { 0 = 0 })) in
     record {
       plugs = made ∙ ap (λ (l : List IfaceId). set l x.end x.to) inv.plugs ∙ sym (remade_more c.args.plugs.now.items cs k none c.loop-change-test.true);
       plugged = ap (λ (l : List IfaceId). length l) made ∙ length-set old x.end x.to ∙ inv.plugged;

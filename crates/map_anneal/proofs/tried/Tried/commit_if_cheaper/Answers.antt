@@ -1,10 +1,12 @@
-use Rattle.std.proofs.Common.{◌≡◌, ◌≤◌, ◌∙◌, ℕ, Option, Some, None, ap, sym, subst, arith, Bool, cond, refl}
+use Rattle.std.proofs.Common.{◌≡◌, ◌≤◌, ◌∙◌, ℕ, List, Option, Some, None, ap, sym, subst, arith, Bool, cond, refl}
 use Rattle.std.specs.Prelude.{IsTrue, ◌↔◌}
 use Rattle.std.proofs.lemmas.Option.{none-some, same_Some}
 use Rattle.virt_topo.specs.declared.mapping.Mapping.{Mapping}
 use Rattle.node_maps.specs.NodeMaps.{node_map, plugs_of}
 use Rattle.node_maps.specs.Moved.{KeepsPlaces}
 use Rattle.node_maps.proofs.Assembled.{parts_of_map}
+use Rattle.lab_model.specs.Shapes.{Place}
+use Rattle.node_maps.proofs.MapLaws.{mapped_is}
 use Rattle.node_maps.proofs.MovedLaws.{no_plugs}
 use Rattle.map_state.specs.States.{Was}
 use Rattle.map_anneal.specs.Sought.{price}
@@ -328,3 +330,41 @@ returns-then-from-below-clause-rest g c = λ none. sym c.plan.ensures.sums ∙ c
 
 pub returns-clause-rest : goal.returns-clause-rest
 returns-clause-rest g c = λ none. sym c.plan.ensures.sums ∙ c.in_ok-commit.ensures.rest (sym c.forget.ensures.sums ∙ none)
+
+pub returns-then-is_least_over-clause-map : goal.returns-then-is_least_over-clause-map
+returns-then-is_least_over-clause-map g c = λ is. absurd (false≢true is)
+
+pub returns-then-is_least_over-clause-cost : goal.returns-then-is_least_over-clause-cost
+returns-then-is_least_over-clause-cost g c = λ is. absurd (false≢true is)
+
+pub returns-then-is_least_over-clause-below : goal.returns-then-is_least_over-clause-below
+returns-then-is_least_over-clause-below g c = λ is. absurd (false≢true is)
+
+pub returns-then-is_least_over-clause-same_cost : goal.returns-then-is_least_over-clause-same_cost
+returns-then-is_least_over-clause-same_cost g c = λ is. refl
+
+pub returns-then-is_least_over-clause-state : goal.returns-then-is_least_over-clause-state
+returns-then-is_least_over-clause-state g c = c.requires.state
+
+pub returns-then-is_least_over-clause-none : goal.returns-then-is_least_over-clause-none
+returns-then-is_least_over-clause-none g c = c.requires.none
+
+pub returns-then-is_least_over-clause-places : goal.returns-then-is_least_over-clause-places
+returns-then-is_least_over-clause-places g c = refl
+
+pub returns-then-is_least_over-clause-plugs : goal.returns-then-is_least_over-clause-plugs
+returns-then-is_least_over-clause-plugs g c = λ is. refl
+
+pub returns-then-is_least_over-clause-rest : goal.returns-then-is_least_over-clause-rest
+returns-then-is_least_over-clause-rest g c = λ none. none
+
+pub returns-then-is_least_over-clause-over : goal.returns-then-is_least_over-clause-over
+returns-then-is_least_over-clause-over g c = λ is last was m found.
+    let x = c.args.search.now.mapper in
+    let s = sought_of c.args.search.now c.args.rule.now.number in
+    let places = c.args.self.now.state.mapping.places in
+    let same = (mapped_is x.lab.now x.free.now x.wiring.now places m found).same_places in
+    subst (λ (l : List Place). c.args.below ≤ price s (record { places = l; plugs = m.plugs })) (sym same) (c.is_least_over.ensures c.if-is_least_over.true m.plugs)
+
+pub returns-then-is_least_over-clause-weighed : goal.returns-then-is_least_over-clause-weighed
+returns-then-is_least_over-clause-weighed g c = λ is yes last was plugs kept. c.is_least_over.ensures c.if-is_least_over.true plugs

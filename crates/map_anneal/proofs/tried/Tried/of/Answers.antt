@@ -15,16 +15,16 @@ ask-cost-requires-clause-shaped g c =
 pub returns-clause-tried : goal.returns-clause-tried
 returns-clause-tried g c = let x = c.args.search.now.mapper in record {
   state = record {
-    state = c.rest.ensures.state;
-    mapped = subst (λ (y : Mapping). node_map x.lab.now x.free.now x.wiring.now y.places ≡ Some y) (sym c.rest.ensures.mapping) c.in_ok-state.ensures.state.mapped;
+    state = c.rest-ignores_uses.ensures.state;
+    mapped = subst (λ (y : Mapping). node_map x.lab.now x.free.now x.wiring.now y.places ≡ Some y) (sym c.rest-ignores_uses.ensures.mapping) c.in_ok-state.ensures.state.mapped;
   };
-  none = c.rest.ensures.back ∙ c.in_ok-state.ensures.none;
-  cost = c.ask-cost.ensures ∙ ap (price (sought_of c.args.search.now c.args.rule.now.number)) (sym (c.rest.ensures.mapping ∙ c.in_ok-state.ensures.start));
-  resting = c.rest.ensures.resting;
+  none = c.rest-ignores_uses.ensures.back ∙ c.in_ok-state.ensures.none;
+  cost = c.ask-cost.ensures ∙ ap (price (sought_of c.args.search.now c.args.rule.now.number)) (sym (c.rest-ignores_uses.ensures.mapping ∙ c.in_ok-state.ensures.start));
+  resting = c.rest-ignores_uses.ensures.resting;
 }
 
-pub rest-requires-clause-resting : goal.rest-requires-clause-resting
-rest-requires-clause-resting g c = λ none. absurd (false≢true (sym (ap is_some none) ∙ c.in_ok-state.ensures.summed))
+pub rest-ignores_uses-requires-clause-resting : goal.rest-ignores_uses-requires-clause-resting
+rest-ignores_uses-requires-clause-resting g c = λ none. absurd (false≢true (sym (ap is_some none) ∙ c.in_ok-state.ensures.summed))
 
 pub returns-clause-start : goal.returns-clause-start
-returns-clause-start g c = c.rest.ensures.mapping ∙ c.in_ok-state.ensures.start
+returns-clause-start g c = c.rest-ignores_uses.ensures.mapping ∙ c.in_ok-state.ensures.start

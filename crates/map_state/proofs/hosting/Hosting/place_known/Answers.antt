@@ -14,7 +14,7 @@ pub returns-clause-hosting : goal.returns-clause-hosting
 returns-clause-hosting c =
     let lab = c.args.lab.now in
     let w = c.args.wiring.now in
-    subst (λ (y : Mapping). IsHosting lab w y (record { hosts = c.go.new.self.hosts; guests = c.go.new.self.guests; nodes = c.go.new.self.nodes; members = c.go.new.self.members; soft = c.args.soft })) (sym c.go.ensures.mapping) (record {
+    subst (λ (y : Mapping). IsHosting lab w y (record { hosts = c.go.new.self.hosts; guests = c.go.new.self.guests; nodes = c.go.new.self.nodes; members = c.go.new.self.members; soft = c.args.outcome.soft })) (sym c.go.ensures.mapping) (record {
       hosts = c.go.ensures.hosts;
       one_each = c.go.ensures.one_each;
       guests = c.go.ensures.guests;
