@@ -4,27 +4,33 @@ ghost use Rattle.std.specs.List.{range_with_len};
 ghost use Rattle.lab_model.specs.Beside.{ids_of};
 ghost use Rattle.records_model.specs.Labs.{Sane};
 ghost use Rattle.claims.specs.Experiments.{ClaimsOf};
-ghost use Rattle.lab_seen.specs.Claimed.{ids_claimed};
+ghost use Rattle.lab_seen.specs.Claimed.{ids_claimed, plugs_of};
 ghost use Rattle.lab_look.specs.Seen.{machine_of, exp_of, owner_at, view_of};
 
 use crate::seats::{owner_of, seat_of};
 use crate::trunks::trunks_of;
 use claims::{Claims, MAX_EXPERIMENTS};
 use lab_base::{Items, Memory};
-use lab_seen::{ids_claimed, nodes_claimed, plugs_of, stand_of};
+use lab_seen::{ids_claimed, nodes_claimed, plugs_by_node, stand_of};
 use lab_state::LabState;
 use lab_view::{Exp, MAX_IDS, Machine, View};
 use phys_lab::{Lab, Node};
 use std::alloc::Global;
 use virt_topo::Experiment;
 
-fn machine_of(alloc: Global, state: &LabState, lab: &Lab, node: &Node) -> Result<Machine, Memory>
-    requires { length state.now.state.experiments ≤ MAX_EXPERIMENTS }
+fn machine_of(
+    alloc: Global,
+    state: &LabState,
+    lab: &Lab,
+    node: &Node,
+    plugs: Items<usize>,
+) -> Result<Machine, Memory>
+    requires few { length state.now.state.experiments ≤ MAX_EXPERIMENTS }
+    requires plugs { plugs ≡ plugs_of lab.now node.now.name }
     ensures { IfOk result (λ machine. machine ≡ machine_of lab.now state.now.state.experiments node.now) }
 {
     let name = node.name.bytes();
     let types = node.types.copy(alloc)?;
-    let plugs = plugs_of(alloc, lab, name)?;
     let seat = seat_of(alloc, state, lab, name)?;
     Ok(Machine {
         name: node.name,
@@ -34,13 +40,17 @@ fn machine_of(alloc: Global, state: &LabState, lab: &Lab, node: &Node) -> Result
     })
 }
 
+#[tactic(auto, using(crate::proofs::Plugs::plugs_len, crate::proofs::Plugs::plugs_here))]
 fn machines_of(alloc: Global, state: &LabState, lab: &Lab) -> Result<Items<Machine>, Memory>
     requires { length state.now.state.experiments ≤ MAX_EXPERIMENTS }
     ensures { IfOk result (λ machines. machines ≡ map (machine_of lab.now state.now.state.experiments) lab.now.nodes) }
 {
+    let plugs = plugs_by_node(alloc, lab)?;
+    let nodes = lab.nodes();
     let mut machines = Items::new(alloc);
-    for node in lab.nodes() {
-        machines.push(machine_of(alloc, state, lab, node)?)?;
+    for n in 0..nodes.len() {
+        let own = plugs.as_slice()[n].copy(alloc)?;
+        machines.push(machine_of(alloc, state, lab, &nodes[n], own)?)?;
     }
     Ok(machines)
 }
