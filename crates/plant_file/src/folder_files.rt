@@ -1,4 +1,4 @@
-ghost use Rattle.std.specs.Prelude.{◌≡◌, ◌↔◌, ◌≤◌, ◌+◌, ℕ, List, [], ◌∷◌, Bool, Option, true, false, length, take, drop, option_map, IsTrue, IsFalse, IsErrOf, IfOk, IfSome, OnOk, OnErr, Err};
+ghost use Rattle.std.specs.Prelude.{◌≡◌, ◌↔◌, ◌≤◌, ◌+◌, ℕ, List, [], ◌∷◌, Bool, Option, false, length, take, drop, option_map, IsTrue, IsFalse, IsErrOf, IfOk, IfSome, OnOk, OnErr, Err};
 ghost use Rattle.std.specs.Option.{ForSome};
 ghost use Rattle.plant.specs.Disks.{disk, ArePossible};
 ghost use Rattle.plant.specs.DiskCalls.{missed, WriteSteps, SyncSteps, CutSteps};

@@ -73,6 +73,7 @@ impl Paths {
             Side::B => self.b.as_str(),
         }
     }
+
     /// The file of a text.
     pub(crate) fn text(&self, name: TextName) -> &str
         ensures { result.now ≡ name_of_text name self.now }

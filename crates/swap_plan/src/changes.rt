@@ -1,5 +1,5 @@
 // The plan of a change.
-ghost use Rattle.std.specs.Prelude.{◌≡◌, ◌<◌, ◌++◌, ◌∷◌, [], length, map, slice_index_or, if◌then◌else◌, IfOk, OnOk, Some, None, true};
+ghost use Rattle.std.specs.Prelude.{◌≡◌, ◌<◌, ◌++◌, ◌∷◌, [], length, slice_index_or, if◌then◌else◌, IfOk, OnOk, Some, None, true};
 ghost use Rattle.std.specs.Cmp.Lexicographic.{pointwise};
 ghost use Rattle.std.specs.Option.{option_or};
 ghost use Rattle.lab_base.specs.Lists.{Has};

@@ -1,4 +1,4 @@
-use Rattle.std.proofs.Common.{◌≡◌, ◌∷◌, ◌++◌, [], List, sym, subst}
+use Rattle.std.proofs.Common.{◌≡◌, List, sym, subst}
 use Rattle.plant.specs.Disks.{disk}
 use Rattle.plant.specs.Events.{Event, Wrote}
 use Rattle.plant.specs.declared.step.Side.TheVariants.{A, B}

@@ -1,4 +1,4 @@
-use Rattle.std.proofs.Common.{◌≡◌, ◌≢◌, ◌++◌, ◌<◌, ◌≤◌, ℕ, [], ◌∷◌, List, length, drop, Ok, sym, subst, arith, inl, inr}
+use Rattle.std.proofs.Common.{◌≡◌, ◌++◌, ◌≤◌, ℕ, [], ◌∷◌, List, length, drop, Ok, sym, subst, arith}
 use Rattle.std.proofs.lemmas.Result.{err_from_is_err_and}
 use Rattle.lab_base.specs.declared.fault.Kind.TheVariants as kinds
 use Rattle.tcl_eval.specs.declared.commands.Own.TheVariants as owns
