@@ -32,7 +32,7 @@ use Rattle.lab_model.specs.Claims.{Which, Old, New, claimed_in, Places, Claims, 
 use Rattle.lab_model.specs.Cabled.{SameNode, CabledPhase, Cabled}
 use Rattle.records_model.proofs.Finding.{none_some}
 use Rattle.lab_model.proofs.WiringLaws.{known, sound_pipes}
-use Rattle.lab_grow.specs.Named.{named_place, named_plug, HasSameNames, IsStill, IsStillIn, AreStill}
+use Rattle.lab_grow.proofs.Still.{named_place, named_plug, HasSameNames, IsStill, IsStillIn, AreStill}
 
 -- an element of two lists that are one by their names
 one_of : {X Y Z : Type 0} (f : X → Z) (g : Y → Z) (xs : List X) (ys : List Y) (i : ℕ) (x : X) (y : Y) → map f xs ≡ map g ys → i < length xs → f (get_or xs i x) ≡ g (get_or ys i y)

@@ -1,4 +1,5 @@
 mod Carrying
+mod Still
 mod Naming
 mod Cabling
 mod Staying

@@ -27,7 +27,7 @@ use Rattle.lab_model.specs.Uses.{iface_at}
 use Rattle.top_text.specs.Printable.{are_named}
 use Rattle.solution_text.specs.CanonicalSolution.{end_keys, place_fields, iface_field, plug_fields, mapping_lines, canonical_solution}
 use Rattle.solution_text.proofs.SolutionAgain.{place_printed, plug_printed, plug_names}
-use Rattle.lab_grow.specs.Named.{named_place, named_plug, HasSameNames}
+use Rattle.lab_grow.proofs.Still.{named_place, named_plug, HasSameNames}
 
 abbrev Lines : Type 0
 Lines = List (List (List ℕ))

@@ -25,7 +25,8 @@ use Rattle.top_text.specs.Printable.{are_named, is_printable, named_node}
 use Rattle.solution_text.specs.CanonicalSolution.{canonical_solution}
 use Rattle.lab_state.specs.Texts.{the_texts}
 use Rattle.lab_grow.specs.Carried.{IsSameMapped, IsSamePhase, AreSame}
-use Rattle.lab_grow.specs.Named.{HasSameRows, StaysIn, AreStaying, IsStill, IsStillIn, AreStill}
+use Rattle.lab_grow.specs.Named.{HasSameRows, StaysIn, AreStaying}
+use Rattle.lab_grow.proofs.Still.{IsStill, IsStillIn, AreStill}
 use Rattle.lab_grow.proofs.Naming.{same_names}
 use Rattle.lab_grow.proofs.Cabling.{cabled_there}
 
