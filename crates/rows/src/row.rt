@@ -9,6 +9,8 @@
 //! side A [B] FILE        over a plant whose side A has the bytes of a file, and side B those of another
 //! sides                  how long both sides are that the row before left, and what is in them where that is little
 //! like FILE              whether its side A has the bytes of the file, and its side B none
+//! limit BYTES FILE       the reply to the third command of a script without drills, where the journal has at most so many bytes
+//! room                   how many commands and writes of 65,536 bytes a plant in memory takes before it stops, at first and behind a restart
 //! place WORDS            where the words keep the lab
 //! file FILE              what is in the file
 //! remove FOLDER          nothing, and the folder is gone
@@ -31,8 +33,10 @@ use crate::devices::{did, held};
 use crate::drills::drill_named;
 use crate::ends::{ends_of, script_of};
 use crate::folders::{folder_of, place, run_in};
+use crate::limits::limit;
 use crate::numbers::{long, numbers, repeated, turns};
 use crate::orders::order;
+use crate::room::room;
 use crate::run::{Given, Ran, blank, ending, plainly, run, run_blank};
 use crate::sides::{like, plant_with, sides};
 use anyhow::{anyhow, bail};
@@ -276,6 +280,8 @@ fn told_alone(rt: &HostRuntime, words: &[&str]) -> anyhow::Result<String> {
         ["faulty", read, write, room, file, words @ ..] => {
             faulty(rt, [*read, *write, *room], file, words)
         }
+        ["limit", bytes, file] => limit(rt, bytes.parse()?, file),
+        ["room"] => room(rt.alloc()),
         ["place", words @ ..] => place(rt.alloc(), words),
         ["file", file] => Ok(fs::read_to_string(rt, *file)?),
         ["remove", folder] => remove(rt, folder),

@@ -1,4 +1,4 @@
-// The limit of the journal.
+//! Replies by a controller whose journal has a limit of its own.
 ghost use Rattle.std.specs.Prelude.{◌≡◌, ◌≤◌, ◌^◌, None, IfOk, OnOk};
 ghost use Rattle.virt_topo.specs.Soundness.{IsSound};
 ghost use Rattle.lab_model.specs.Shapes.{IsShaped};
@@ -8,28 +8,33 @@ ghost use Rattle.lab_core.specs.Controller.{CanWork};
 ghost use Rattle.script_text.specs.Blocks.{HasBlocks};
 ghost use Rattle.script_text.specs.Drills.{drill_of};
 
+use crate::ends::script_of;
+use crate::run::{blank, wanting};
+use anyhow::{anyhow, bail};
 use cost_rule::{CostFn, Parts, PartsFn, Rule, RuleNumber, StepFn, StepRule};
 use lab_core::Controller;
 use lab_io::{LineReader, MemSource};
 use phys_lab::Lab;
-use plant_mem::MemLab;
 use plant_tables::Tables;
 use rule_costs::{cost_of, parts_cost, step_cost};
 use script_text::{Command, Next, Reply, read_command, reply_text};
 use std::alloc::Global;
-use std::test::Fail;
+use std::str;
 use virt_topo::{Mapping, Wiring};
 
+/// The most bytes of a journal.
+const MOST: u64 = 4_294_967_296;
+
 /// The next command of a script without drills.
-fn next_of(alloc: Global, lines: &mut LineReader, script: &mut MemSource) -> Result<Command, Fail>
+fn next_of(alloc: Global, lines: &mut LineReader, script: &mut MemSource) -> anyhow::Result<Command>
     ensures blocks { IfOk result HasBlocks }
     ensures no_drill { IfOk result (λ command. drill_of command ≡ None) }
 {
     let Ok(Next::Command(command)) = read_command(alloc, lines, script) else {
-        return Err("a command".into());
+        return Err(anyhow!("no command"));
     };
     match command.drill() {
-        Some(_) => Err("no drill".into()),
+        Some(_) => Err(anyhow!("a drill")),
         None => Ok(command),
     }
 }
@@ -40,7 +45,7 @@ fn obeyed<P: Tables>(
     command: &Command,
     rule: &StepRule,
     plant: &mut P,
-) -> Result<Reply, Fail>
+) -> anyhow::Result<Reply>
     requires blocks { HasBlocks command.now }
     requires no_drill { drill_of command.now ≡ None }
     requires works { CanWork (P.seen plant.old) controller.old }
@@ -49,12 +54,12 @@ fn obeyed<P: Tables>(
     match controller.obey(command, rule, plant) {
         Ok(reply) => {
             if reply.closes() {
-                Err("an open controller".into())
+                Err(anyhow!("a controller that is closed"))
             } else {
                 Ok(reply)
             }
         }
-        Err(_) => Err("a reply".into()),
+        Err(_) => Err(anyhow!("no reply")),
     }
 }
 
@@ -66,7 +71,7 @@ fn reply_to_next<P: Tables>(
     controller: &mut Controller,
     rule: &StepRule,
     plant: &mut P,
-) -> Result<Reply, Fail>
+) -> anyhow::Result<Reply>
     requires works { CanWork (P.seen plant.old) controller.old }
     ensures works { OnOk result (CanWork (P.seen plant.new) controller.new) }
 {
@@ -81,30 +86,30 @@ fn third_reply<P: Tables>(
     controller: &mut Controller,
     rule: &StepRule,
     plant: &mut P,
-) -> Result<Reply, Fail>
+) -> anyhow::Result<Reply>
     requires works { CanWork (P.seen plant.old) controller.old }
 {
-    let mut lines = LineReader::new(alloc)?;
-    let mut source = MemSource::new(alloc, script, &[])?;
+    let mut lines = LineReader::new(alloc).map_err(wanting)?;
+    let mut source = MemSource::new(alloc, script, &[]).map_err(wanting)?;
     let _first = reply_to_next(alloc, &mut lines, &mut source, controller, rule, plant)?;
     let _second = reply_to_next(alloc, &mut lines, &mut source, controller, rule, plant)?;
     reply_to_next(alloc, &mut lines, &mut source, controller, rule, plant)
 }
 
 /// The reply to the third command of a script, by a controller with that limit over a blank plant.
-fn reply_under(alloc: Global, rule: &StepRule, limit: u64, script: &[u8]) -> Result<Reply, Fail>
+fn reply_under(alloc: Global, rule: &StepRule, limit: u64, script: &[u8]) -> anyhow::Result<Reply>
     requires least { 18 ≤ limit }
     requires most { limit ≤ 2 ^ 32 }
 {
-    let mut plant = MemLab::blank(alloc)?;
+    let mut plant = blank(alloc)?;
     let Ok(mut controller) = Controller::open(alloc, limit, &mut plant) else {
-        return Err("an open journal".into());
+        return Err(anyhow!("no journal"));
     };
     third_reply(alloc, script, &mut controller, rule, &mut plant)
 }
 
 /// The reply under that limit, by the rule that serves where none is chosen.
-fn reply_within(alloc: Global, limit: u64, script: &[u8]) -> Result<Reply, Fail>
+fn reply_within(alloc: Global, limit: u64, script: &[u8]) -> anyhow::Result<Reply>
     requires least { 18 ≤ limit }
     requires most { limit ≤ 2 ^ 32 }
 {
@@ -129,32 +134,13 @@ fn reply_within(alloc: Global, limit: u64, script: &[u8]) -> Result<Reply, Fail>
     reply_under(alloc, &rule, limit, script)
 }
 
-/// Whether that reply has this text.
-fn replies_so(alloc: Global, limit: u64, script: &[u8], text: &[u8]) -> Result<bool, Fail>
-    requires least { 18 ≤ limit }
-    requires most { limit ≤ 2 ^ 32 }
-{
-    let reply = reply_within(alloc, limit, script)?;
-    Ok(reply_text(alloc, &reply)?.bytes() == text)
-}
-
-#[test]
-fn a_journal_is_full_before_its_limit(rt: HostRuntime) -> Result<(), Fail> {
-    // The record of this lab has 23 bytes, and 10,240 are kept behind it.
-    let script = b"status\nstatus\nptop 0\n";
-    let full = b"full journal 18\n";
-    assert!(rt; replies_so(rt.alloc(), 10_258, script, full)?);
-    assert!(rt; replies_so(rt.alloc(), 10_280, script, full)?);
-    assert!(rt; replies_so(rt.alloc(), 10_281, script, b"lab 0 0 0\n")?);
-    Ok(())
-}
-
-#[test]
-fn a_full_journal_is_told_before_a_promise_is_asked_for(rt: HostRuntime) -> Result<(), Fail> {
-    // The records of the lab and of A have 37 and 28 bytes, and that of the swap has 29.
-    let script =
-        b"ptop 1\nnode pc1 pc:1\ncreate-top A 1\nnode a pc linux\nbatch 0 2\npromise pc 1 0 9\nrun A 0 9\n";
-    assert!(rt; replies_so(rt.alloc(), 10_351, script, b"full journal 83\n")?);
-    assert!(rt; replies_so(rt.alloc(), 10_352, script, b"wait A 0 1 0 pc\n")?);
-    Ok(())
+/// The reply to the third command of a script, where the journal has at most so many bytes.
+pub fn limit(rt: &HostRuntime, bytes: u64, file: &str) -> anyhow::Result<String> {
+    if bytes < 18 || MOST < bytes {
+        bail!("no limit of a journal");
+    }
+    let script = script_of(rt, file)?;
+    let reply = reply_within(rt.alloc(), bytes, script.as_bytes())?;
+    let text = reply_text(rt.alloc(), &reply).map_err(wanting)?;
+    Ok(String::from_str(rt.alloc(), str::from_utf8(text.bytes())?)?)
 }
