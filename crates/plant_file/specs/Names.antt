@@ -2,8 +2,6 @@
 use Rattle.std.specs.Prelude.{ℕ, List, ◌∷◌, ◌++◌, codes}
 use Rattle.plant.specs.declared.step.Side.{Side}
 use Rattle.plant.specs.declared.step.Side.TheVariants.{A, B}
-use Rattle.plant_file.specs.declared.folder_files.TextName.{TextName}
-use Rattle.plant_file.specs.declared.folder_files.TextName.TheVariants.{Tables, Beside, Older}
 
 pub record Names : Type 0 where
   pub folder : List ℕ
@@ -38,9 +36,3 @@ names_in folder = record {
 abbrev pub name_of_side : Side → Names → List ℕ
 name_of_side A names = names.a
 name_of_side B names = names.b
-
--- the file of a text
-abbrev pub name_of_text : TextName → Names → List ℕ
-name_of_text Tables names = names.tables
-name_of_text Beside names = names.beside
-name_of_text Older names = names.old

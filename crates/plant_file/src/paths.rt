@@ -1,5 +1,5 @@
 ghost use Rattle.std.specs.Prelude.{◌≡◌, IfOk, string_bytes};
-ghost use Rattle.plant_file.specs.Names.{inside, name_of_side, name_of_text, names_in};
+ghost use Rattle.plant_file.specs.Names.{inside, name_of_side, names_in};
 
 use crate::folder_files::TextName;
 use lab_base::Memory;
@@ -76,7 +76,9 @@ impl Paths {
 
     /// The file of a text.
     pub(crate) fn text(&self, name: TextName) -> &str
-        ensures { result.now ≡ name_of_text name self.now }
+        ensures tables { name ≡ TextName.Tables → result.now ≡ self.now.tables }
+        ensures beside { name ≡ TextName.Beside → result.now ≡ self.now.beside }
+        ensures older { name ≡ TextName.Older → result.now ≡ self.now.old }
     {
         match name {
             TextName::Tables => self.tables.as_str(),
