@@ -1,4 +1,4 @@
-use Rattle.std.proofs.Common.{◌≡◌, List, ℕ, [], subst}
+use Rattle.std.proofs.Common.{List, ℕ, [], subst}
 use Rattle.journal_rec.specs.declared.record.Record.{Record}
 use Rattle.records_model.specs.Labs.{LabOf}
 use Rattle.lab_state.specs.Texts.{the_texts}

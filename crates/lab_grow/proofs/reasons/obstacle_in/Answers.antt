@@ -1,4 +1,4 @@
-use Rattle.std.proofs.Common.{◌≡◌, ◌∷◌, inl, List, refl, sym, subst}
+use Rattle.std.proofs.Common.{◌∷◌, inl, List, refl, sym, subst}
 use Rattle.lab_base.specs.Lists.{Has}
 use Rattle.lab_base.proofs.Members.{Has-right}
 use Rattle.virt_topo.specs.declared.experiment.Experiment.{Experiment}
