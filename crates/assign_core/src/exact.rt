@@ -12,9 +12,11 @@ ghost use Rattle.map_state.specs.Tables.{IsSearch};
 ghost use Rattle.map_anneal.specs.Sought.{sought, choices, mapped, price, IsNodeMap};
 ghost use Rattle.map_anneal.specs.Searches.{sought_of, IsPriced};
 ghost use Rattle.assign_core.specs.Bests.{IsBest, is_below, is_free};
+ghost use Rattle.assign_core.specs.Prefixes.{IsPrefix};
 ghost use Rattle.assign_core.specs.Exact.{all_choices, count, node_maps, IsCheapestOf};
 
 use crate::begin::first_choice;
+use crate::prefix::{Prefix, are_dear};
 use cost_rule::StepRule;
 use lab_base::Memory;
 use map_anneal::{Prepared, Priced, cost_of};
@@ -43,10 +45,7 @@ fn is_no_less(search: &Search, rule: &StepRule, state: &MapState, best: &Option<
     ensures { IsTrue result → (plugs : List IfaceIdSeen)
         → is_below (price (sought_of search.now rule.now.number) (record { places = state.now.mapping.places; plugs = plugs })) best.now ≡ false }
 {
-    match best {
-        Some(kept) => rule.ask_parts(state.parts_at_rest(search)) >= kept.cost,
-        None => false,
-    }
+    are_dear(rule, state.parts_at_rest(search), best)
 }
 
 /// The cost of a map that is taken: the rule's step from the best one so far answers it, and the rule that of the first one.
@@ -108,38 +107,47 @@ fn is_free(best: &Option<Priced>) -> bool
     }
 }
 
-/// The best map after all those that begin with the first places of the one that is chosen. Behind a map that costs nothing no other is looked at.
+/// The best map after all those that begin with these places, which the one that is chosen does too. Maps that are known to be no cheaper are passed over
+/// as soon as their first places tell. Behind a map that costs nothing no other is looked at.
 fn explore(
     alloc: Global,
     search: &Search,
     rule: &StepRule,
-    begun: usize,
+    prefix: &mut Prefix,
     chosen: &mut Chosen,
     best: Option<Priced>,
 ) -> Result<Option<Priced>, Memory>
     requires search { IsSearch search.now }
+    requires prefix { IsPrefix search.now prefix.old }
     requires chosen { IsChosen search.now chosen.old }
-    requires begun { begun ≤ length (choices (sought_of search.now rule.now.number)) }
+    requires begun { take (length prefix.old.places.items) chosen.old.state.mapping.places ≡ prefix.old.places.items }
     requires priced { IfSome best (IsPriced (sought_of search.now rule.now.number)) }
     requires resting { chosen.old.state.sums ≡ None → HangsOnNoUses rule.now.number }
+    ensures prefix { OnOk result (IsPrefix search.now prefix.new) }
+    ensures places { OnOk result (prefix.new.places.items ≡ prefix.old.places.items) }
     ensures chosen { OnOk result (IsChosen search.now chosen.new) }
+    ensures begun { OnOk result (take (length prefix.old.places.items) chosen.new.state.mapping.places ≡ prefix.old.places.items) }
     ensures rest { OnOk result (chosen.new.state.sums ≡ None → chosen.old.state.sums ≡ None) }
-    ensures places { OnOk result (take begun chosen.new.state.mapping.places ≡ take begun chosen.old.state.mapping.places) }
     ensures priced { IfOk result (λ after. IfSome after (IsPriced (sought_of search.now rule.now.number))) }
     ensures best { IfOk result (λ after. (maps : List MappingValue) → IsBest (sought_of search.now rule.now.number) maps best
         → IsBest (sought_of search.now rule.now.number)
         (maps ++ filter_map (λ p. mapped (sought_of search.now rule.now.number) p)
-        (all_choices (take begun chosen.old.state.mapping.places ∷ []) (drop begun (choices (sought_of search.now rule.now.number))))) after) }
+        (all_choices (prefix.old.places.items ∷ []) (drop (length prefix.old.places.items) (choices (sought_of search.now rule.now.number))))) after) }
 {
-    if begun == search.candidates.len() {
+    let next = prefix.places.len();
+    if next == search.candidates.len() {
         let after = weigh(alloc, search, rule, chosen, best)?;
         return Ok(after);
     }
+    let parts = prefix.parts;
     let mut kept = best;
-    for number in 0..search.candidates.count(begun) {
-        let place = *search.candidates.at(begun, number);
-        chosen.put(alloc, search, begun, place);
-        kept = explore(alloc, search, rule, begun + 1, chosen, kept)?;
+    for number in 0..search.candidates.count(next) {
+        let Some(place) = prefix.enter(search, rule, number, &kept)? else {
+            continue;
+        };
+        chosen.put(alloc, search, next, place);
+        kept = explore(alloc, search, rule, prefix, chosen, kept)?;
+        prefix.leave(search, parts);
         if is_free(&kept) {
             return Ok(kept);
         }
@@ -162,7 +170,9 @@ pub(crate) fn best_by(
         return Ok(None);
     };
     let mut chosen = Chosen::of(alloc, search, &start)?;
-    let explored = explore(alloc, search, rule, 0, &mut chosen, None);
+    let mut prefix = Prefix::nothing(alloc, search)?;
+    let explored = explore(alloc, search, rule, &mut prefix, &mut chosen, None);
+    drop(prefix);
     drop(chosen);
     let found = explored?;
     match found {

@@ -4,6 +4,7 @@
 mod begin;
 mod exact;
 mod first;
+mod prefix;
 mod whole;
 
 pub use exact::{MAX_CHOICES, best_of_all};
