@@ -169,8 +169,8 @@ impl Tried {
         Ok(true)
     }
 
-    /// What a move of a virtual node to another of its candidates comes to at least by the interfaces that the rule gives. These are its parts, where they
-    /// are told, or those but for the uses of trunks, which are enough where the cost rule ignores uses.
+    /// The least that a move of a virtual node to another of its candidates comes to by the interfaces that the rule gives. These are its parts, where
+    /// they are told, or those but for the uses of trunks, which are enough where the cost rule ignores uses.
     fn least_of(&self, search: &Search, node: usize, place: &Place) -> Foretold
         requires search { IsSearch search.now }
         requires state { IsFeasibleState search.now self.now.state }

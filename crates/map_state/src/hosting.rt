@@ -19,7 +19,7 @@ use std::alloc::Global;
 use std::mem;
 use virt_topo::{MAX_TOPOLOGY_NODES, Mapping, Wiring};
 
-/// What is soft after a move, and where the virtual node is counted then by class and type, if it is.
+/// The soft cost after a move, and where the virtual node is counted then by class and type, if it is.
 #[derive(Clone, Copy)]
 pub struct Outcome {
     pub soft: u64,
