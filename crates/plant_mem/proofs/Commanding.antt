@@ -1,5 +1,5 @@
 -- The state behind a command, as the trait has it.
-use Rattle.std.proofs.Common.{◌≡◌, inl, inr, ℕ, Bool, true, false, List, [], ◌∷◌, Option, Some, None, Result, Err, refl, sym, ap, subst, if◌then◌else◌}
+use Rattle.std.proofs.Common.{◌≡◌, inl, inr, ℕ, Bool, true, false, List, [], ◌∷◌, Option, Some, None, Result, Err, refl, sym, ap, ◌∙◌, subst, if◌then◌else◌}
 use Rattle.std.specs.Prelude.{is_some}
 use Rattle.std.proofs.lemmas.List.{append-nil}
 use Rattle.plant.specs.Calls.{Fits, CommandSteps}
@@ -14,7 +14,7 @@ use Rattle.plant.specs.declared.drill.Pick.{Pick}
 use Rattle.plant.specs.declared.drill.Pick.TheVariants.{Nothing, All, Torn}
 use Rattle.lab_base.specs.declared.boot.Boot.{Boot}
 use Rattle.plant_mem.specs.Boots.{answer_of, moved_by}
-use Rattle.plant_mem.specs.Commands.{answer_sent, failed_if, met_command, met_answer, after_command, answer_command}
+use Rattle.plant_mem.specs.Commands.{answer_sent, sent, failed_if, met_command, met_answer, after_command, answer_command}
 use Rattle.plant_mem.specs.DiskPlans.{stops_next, stop_counted, is_done}
 use Rattle.plant_mem.specs.Held.{Held, effect_if, halted}
 use Rattle.plant_mem.specs.Plans.{firing, motion_of, is_applied, answer_by}
@@ -73,3 +73,9 @@ pub command_tells : (room : Bool) (op : DeviceOp) (h k : Held) (result : Result 
     → (steps : List Event) × (Some k.told ≡ with_steps (Some h.told) steps) × CommandSteps op h.stopped result steps
 command_tells room op h k result answer leaves =
     subst (λ r. Tells op h.stopped h r k) (sym answer) (subst (λ x. Tells op h.stopped h (answer_command room op h) x) (sym leaves) (tells_by h.stopped room op h))
+
+-- a command that is sent, where the plant goes on, has room and doesn't stop
+pub sent_is : (room : Bool) (op : DeviceOp) (h k : Held) → h.stopped ≡ false → room ≡ true → stops_next h.stop ≡ None → k ≡ sent op (record h { stop = stop_counted h.stop }) → k ≡ after_command room op h
+sent_is room op h k going roomy none is =
+    is ∙ ap (λ (p : Option Pick). met_command p op (record h { stop = stop_counted h.stop })) (sym none) ∙ ap (λ (b : Bool). if b then met_command (stops_next h.stop) op (record h { stop = stop_counted h.stop }) else halted Nothing h) (sym roomy)
+    ∙ ap (λ (b : Bool). if b then h else (if room then met_command (stops_next h.stop) op (record h { stop = stop_counted h.stop }) else halted Nothing h)) (sym going)

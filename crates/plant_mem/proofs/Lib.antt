@@ -6,9 +6,12 @@ mod Growing
 mod Images
 mod Keeping
 mod Knowing
+mod NodeLaws
 mod Numbers
 mod Passes
+mod Reading
 mod Restarting
+mod PipeLaws
 mod RowTables
 mod Sides
-mod States
+mod Sorted

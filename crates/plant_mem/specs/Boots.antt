@@ -1,6 +1,9 @@
--- The boot states that a plant in memory keeps.
-use Rattle.std.specs.Prelude.{ℕ, Bool, List, Option, Some, None, if◌then◌else◌}
+-- The boot states and the OS of nodes that a plant in memory keeps.
+use Rattle.std.specs.Prelude.{◌≡◌, ◌<◌, ℕ, Bool, List, Option, Some, None, length, slice_index_or, if◌then◌else◌}
+use Rattle.std.specs.Cmp.Lexicographic.{slice_cmp}
 use Rattle.std.specs.List.{find}
+use Rattle.std.specs.Ordering.{nat_cmp}
+use Rattle.std.specs.declared.cmp.Ordering.TheVariants.{Less}
 use Rattle.std.specs.Str.{bytes_eq}
 use Rattle.lab_base.specs.declared.boot.Boot.{Boot}
 use Rattle.lab_base.specs.declared.boot.Boot.TheVariants.{Off, Booting, TbSetup, IsUp}
@@ -24,9 +27,17 @@ state_or_off (Some entry) = entry.state
 abbrev pub state_in : List ℕ → List NodeState → Boot
 state_in node entries = state_or_off (find (is_of node) entries)
 
--- the entry with that state, where it is the node's
-abbrev pub with_state : List ℕ → Boot → NodeState → NodeState
-with_state node state entry = if is_of node entry then record entry { state = state } else entry
+-- the OS that a table has for a node
+abbrev pub os_or_none : Option NodeState → Option (List ℕ)
+os_or_none None = None
+os_or_none (Some entry) = entry.os
+
+abbrev pub os_in : List ℕ → List NodeState → Option (List ℕ)
+os_in node entries = os_or_none (find (is_of node) entries)
+
+-- entries stand by their nodes' names, so that no name stands twice
+abbrev pub NodesRise : List NodeState → Type 0
+NodesRise entries = (i j : ℕ) (d : NodeState) → i < j → j < length entries → slice_cmp nat_cmp (slice_index_or entries i d).node (slice_index_or entries j d).node ≡ Less
 
 -- what a poll makes of a state
 abbrev pub moved : Boot → Boot
@@ -51,6 +62,12 @@ state_after op motion name state = state
 -- the same of a command that may not have been applied
 abbrev pub state_sent : DeviceOp → Motion → Bool → List ℕ → Boot → Boot
 state_sent op motion applied name state = if applied then state_after op motion name state else state
+
+-- the named node's OS after a command that was applied
+abbrev pub os_after : DeviceOp → List ℕ → Option (List ℕ) → Option (List ℕ)
+os_after (Load node os) name had = if bytes_eq node name then Some os else had
+os_after (Wipe node) name had = if bytes_eq node name then None else had
+os_after op name had = had
 
 -- the answer of a command that is done, by the state that its node had
 abbrev pub answer_of : DeviceOp → Motion → (List ℕ → Boot) → Answer

@@ -34,7 +34,7 @@ held_of m = record {
   plans = m.plans.items;
   disk_plans = m.disk_plans.items;
   stop = m.stop;
-  state = λ node. state_in node m.past.nodes.items;
+  state = λ node. state_in node m.past.nodes.nodes.items;
 }
 
 -- nothing has happened, and nothing is planned

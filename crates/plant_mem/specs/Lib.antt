@@ -6,7 +6,9 @@ pub mod Fates
 pub mod Held
 pub mod Knows
 pub mod MemLab
+pub mod NodeRooms
 pub mod Picks
+pub mod Pipes
 pub mod Plans
 pub mod Possible
 pub mod Readings

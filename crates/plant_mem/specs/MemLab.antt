@@ -29,7 +29,7 @@ seen_of m = record { told = Some (told_of m); faults = m.faults; stopped = m.sto
 
 -- the boot state of a node
 abbrev pub state_of : MemLab → List ℕ → Boot
-state_of m node = state_in node m.past.nodes.items
+state_of m node = state_in node m.past.nodes.nodes.items
 
 -- a side as the plant keeps it
 abbrev pub face_of : MemLab → Side → Face

@@ -6,6 +6,7 @@ use Rattle.plant.specs.declared.step.Side.{Side}
 use Rattle.plant.specs.declared.step.Side.TheVariants.{A, B}
 use Rattle.plant.specs.Sides.{of_side}
 use Rattle.plant_mem.specs.MemLab.{told_of}
+use Rattle.plant_mem.specs.NodeRooms.{node_room}
 use Rattle.plant_mem.specs.declared.face.Face.{Face}
 use Rattle.plant_mem.specs.declared.mem.MemLab.{MemLab}
 
@@ -15,7 +16,7 @@ pub record SideRooms : Type 0 where
   pub durable : ℕ
   pub writes : ℕ
 
--- how many steps and written bytes are left before it stops; for how many entries of the tables of nodes and of rows there is room; and the
+-- how many steps and written bytes are left before it stops; for how many entries of the tables of nodes, of pipes and of rows there is room; and the
 -- rooms of both sides
 pub record Rooms : Type 0 where
   pub steps : ℕ
@@ -30,7 +31,7 @@ side_rooms face = record { reads = vec_capacity face.reads; durable = vec_capaci
 abbrev pub rooms_of : MemLab → Rooms
 rooms_of m = record {
   steps = m.last_step - vec_len m.past.steps;
-  entries = min (vec_capacity m.past.nodes - vec_len m.past.nodes) (vec_capacity m.past.rows - vec_len m.past.rows);
+  entries = min (node_room m.past.nodes) (vec_capacity m.past.rows - vec_len m.past.rows);
   bytes = m.last_byte - vec_len m.past.bytes;
   a = side_rooms m.past.a;
   b = side_rooms m.past.b;

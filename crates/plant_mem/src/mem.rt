@@ -20,7 +20,7 @@ pub(crate) const MORE_BYTES: usize = 1_048_576;
 /// A plant in memory, which tells its trace and takes drills.
 ///
 /// From the start and after each restart it takes 262,144 steps more and 16 MiB more of written bytes. It has room for them, with an entry of its
-/// tables of nodes and of rows for each step, and with 16 MiB more on each side as it reads, and as it is durable. So none of its six calls to
+/// tables of nodes, of pipes and of rows for each step, and with 16 MiB more on each side as it reads, and as it is durable. So none of its six calls to
 /// the disk and the devices takes memory.
 ///
 /// At the write, sync, cut or command that would pass these numbers it stops, without effect. A restart then leaves the durable bytes.

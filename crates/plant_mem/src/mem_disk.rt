@@ -33,7 +33,7 @@ impl MemLab {
     pub(crate) fn can_command(&self) -> bool
         ensures { result ≡ can_command self.now }
     {
-        let nodes = self.past.nodes.capacity() - self.past.nodes.len();
+        let nodes = self.past.nodes.room();
         let rows = self.past.rows.capacity() - self.past.rows.len();
         self.can_step() && 0 < nodes.min(rows)
     }

@@ -12,7 +12,7 @@ ghost use Rattle.plant.specs.declared.step.Side.TheVariants.{A, B};
 
 use crate::face::{Face, most};
 use crate::motion::Motion;
-use crate::nodes::{NodeState, apply, apply_if};
+use crate::node_table::NodeTable;
 use crate::row_table;
 use crate::rows::Row;
 use lab_base::{Memory, Name};
@@ -29,12 +29,12 @@ pub struct Past {
     pub bytes: Vec<u8>,
     pub a: Face,
     pub b: Face,
-    pub nodes: Vec<NodeState>,
+    pub nodes: NodeTable,
     pub rows: Vec<Row>,
     ghost within: { are_within (length bytes.items) steps.items ≡ true },
     ghost a_is: { disk_of a ≡ disk A (trace_of bytes.items steps.items) },
     ghost b_is: { disk_of b ≡ disk B (trace_of bytes.items steps.items) },
-    ghost known: { Knows (trace_of bytes.items steps.items) nodes.items },
+    ghost known: { Knows (trace_of bytes.items steps.items) nodes.nodes.items nodes.pipes.items },
     ghost rows_are: { AreRows (world_of (trace_of bytes.items steps.items)) rows.items },
 }
 
@@ -109,6 +109,7 @@ impl Past {
     ghost use Rattle.plant.specs.Disks.{disk};
     ghost use Rattle.plant.specs.Sides.{of_side};
     ghost use Rattle.plant_mem.specs.Faces.{disk_of, KeepsRoom, HasMore};
+    ghost use Rattle.plant_mem.specs.NodeRooms.{node_room};
     ghost use Rattle.plant_mem.specs.Picks.{left_by};
     ghost use Rattle.plant_mem.specs.Steps.{trace_of};
     ghost use Rattle.plant.specs.declared.drill.Pick.{Pick};
@@ -121,8 +122,8 @@ impl Past {
         ensures bytes_room { IfOk result (λ past. vec_len past.bytes + bytes ≤ vec_capacity past.bytes) }
         ensures a { IfOk result (λ past. HasMore steps bytes past.a) }
         ensures b { IfOk result (λ past. HasMore steps bytes past.b) }
-        ensures nodes { IfOk result (λ past. past.nodes.items ≡ []) }
-        ensures nodes_room { IfOk result (λ past. vec_len past.nodes + steps ≤ vec_capacity past.nodes) }
+        ensures nodes { IfOk result (λ past. past.nodes.nodes.items ≡ []) }
+        ensures nodes_room { IfOk result (λ past. steps ≤ node_room past.nodes) }
         ensures rows_room { IfOk result (λ past. vec_len past.rows + steps ≤ vec_capacity past.rows) }
     {
         Ok(Past {
@@ -130,7 +131,7 @@ impl Past {
             bytes: Vec::with_capacity(alloc, bytes)?,
             a: Face::new(alloc, steps, bytes)?,
             b: Face::new(alloc, steps, bytes)?,
-            nodes: Vec::with_capacity(alloc, steps)?,
+            nodes: NodeTable::new(alloc, steps)?,
             rows: Vec::with_capacity(alloc, steps)?,
         })
     }
@@ -138,16 +139,16 @@ impl Past {
     /// Notes a command that is applied, and answers it.
     pub fn done(&mut self, op: &DeviceOp, motion: Motion) -> Answer
         requires steps { vec_len self.old.steps < vec_capacity self.old.steps }
-        requires nodes { vec_len self.old.nodes < vec_capacity self.old.nodes }
+        requires nodes { 0 < node_room self.old.nodes }
         requires rows { vec_len self.old.rows < vec_capacity self.old.rows }
-        ensures answer { result ≡ answer_of op.now motion (λ name. state_in name self.old.nodes.items) }
+        ensures answer { result ≡ answer_of op.now motion (λ name. state_in name self.old.nodes.nodes.items) }
         ensures trace { trace_of self.new.bytes.items self.new.steps.items
             ≡ trace_of self.old.bytes.items self.old.steps.items ++ events.Did op.now true (Ok result) ∷ [] }
-        ensures states { (name : List ℕ) → state_in name self.new.nodes.items ≡ state_after op.now motion name (state_in name self.old.nodes.items) }
+        ensures states { (name : List ℕ) → state_in name self.new.nodes.nodes.items
+            ≡ state_after op.now motion name (state_in name self.old.nodes.nodes.items) }
         ensures steps { vec_len self.new.steps ≡ vec_len self.old.steps + 1 }
         ensures capacity { vec_capacity self.new.steps ≡ vec_capacity self.old.steps }
-        ensures nodes { vec_len self.new.nodes ≤ vec_len self.old.nodes + 1 }
-        ensures nodes_capacity { vec_capacity self.new.nodes ≡ vec_capacity self.old.nodes }
+        ensures nodes { node_room self.old.nodes ≤ node_room self.new.nodes + 1 }
         ensures rows { vec_len self.new.rows ≤ vec_len self.old.rows + 1 }
         ensures rows_capacity { vec_capacity self.new.rows ≡ vec_capacity self.old.rows }
         ensures bytes { self.new.bytes ≡ self.old.bytes }
@@ -155,7 +156,7 @@ impl Past {
         ensures b { self.new.b ≡ self.old.b }
     {
         row_table::apply(&mut self.rows, op);
-        let answer = apply(&mut self.nodes, op, motion);
+        let answer = self.nodes.apply(op, motion);
         add_step(
             &mut self.steps,
             &Step::Did {
@@ -170,15 +171,15 @@ impl Past {
     /// Notes a command with that fault, applied or not.
     pub fn failed(&mut self, op: &DeviceOp, motion: Motion, applied: bool, fault: Fault)
         requires steps { vec_len self.old.steps < vec_capacity self.old.steps }
-        requires nodes { vec_len self.old.nodes < vec_capacity self.old.nodes }
+        requires nodes { 0 < node_room self.old.nodes }
         requires rows { vec_len self.old.rows < vec_capacity self.old.rows }
         ensures trace { trace_of self.new.bytes.items self.new.steps.items
             ≡ trace_of self.old.bytes.items self.old.steps.items ++ events.Did op.now applied (Err fault) ∷ [] }
-        ensures states { (name : List ℕ) → state_in name self.new.nodes.items ≡ state_sent op.now motion applied name (state_in name self.old.nodes.items) }
+        ensures states { (name : List ℕ) → state_in name self.new.nodes.nodes.items
+            ≡ state_sent op.now motion applied name (state_in name self.old.nodes.nodes.items) }
         ensures steps { vec_len self.new.steps ≡ vec_len self.old.steps + 1 }
         ensures capacity { vec_capacity self.new.steps ≡ vec_capacity self.old.steps }
-        ensures nodes { vec_len self.new.nodes ≤ vec_len self.old.nodes + 1 }
-        ensures nodes_capacity { vec_capacity self.new.nodes ≡ vec_capacity self.old.nodes }
+        ensures nodes { node_room self.old.nodes ≤ node_room self.new.nodes + 1 }
         ensures rows { vec_len self.new.rows ≤ vec_len self.old.rows + 1 }
         ensures rows_capacity { vec_capacity self.new.rows ≡ vec_capacity self.old.rows }
         ensures bytes { self.new.bytes ≡ self.old.bytes }
@@ -186,7 +187,7 @@ impl Past {
         ensures b { self.new.b ≡ self.old.b }
     {
         row_table::apply_if(applied, &mut self.rows, op);
-        apply_if(applied, &mut self.nodes, op, motion);
+        self.nodes.apply_if(applied, op, motion);
         add_step(
             &mut self.steps,
             &Step::Did {
@@ -299,7 +300,7 @@ impl Past {
     pub fn make_room(&mut self, steps: usize, bytes: usize) -> Result<(), Memory>
         requires { steps < STEPS_LIMIT }
         ensures trace { trace_of self.new.bytes.items self.new.steps.items ≡ trace_of self.old.bytes.items self.old.steps.items }
-        ensures states { self.new.nodes.items ≡ self.old.nodes.items }
+        ensures states { self.new.nodes.nodes.items ≡ self.old.nodes.nodes.items }
         ensures table { self.new.rows.items ≡ self.old.rows.items }
         ensures a_is { disk_of self.new.a ≡ disk_of self.old.a }
         ensures b_is { disk_of self.new.b ≡ disk_of self.old.b }
@@ -309,7 +310,7 @@ impl Past {
         ensures bytes { OnOk result ((pick : Pick)
             → (vec_len self.new.bytes + length (left_by pick (disk_of self.new.a))) + length (left_by pick (disk_of self.new.b)) + bytes ≤ vec_capacity
             self.new.bytes) }
-        ensures nodes { OnOk result (vec_len self.new.nodes + steps ≤ vec_capacity self.new.nodes) }
+        ensures nodes { OnOk result (steps ≤ node_room self.new.nodes) }
         ensures rows { OnOk result (vec_len self.new.rows + steps ≤ vec_capacity self.new.rows) }
         ensures a { OnOk result (HasMore steps bytes self.new.a) }
         ensures b { OnOk result (HasMore steps bytes self.new.b) }
@@ -317,7 +318,7 @@ impl Past {
         self.a.make_room(steps, bytes)?;
         self.b.make_room(steps, bytes)?;
         self.steps.try_reserve(steps + 1)?;
-        self.nodes.try_reserve(steps)?;
+        self.nodes.make_room(steps)?;
         self.rows.try_reserve(steps)?;
         let most = most_of(&self.a).saturating_add(most_of(&self.b));
         self.bytes.try_reserve(most.saturating_add(bytes))?;

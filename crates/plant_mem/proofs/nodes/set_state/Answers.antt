@@ -1,12 +1,14 @@
-use Rattle.std.proofs.Common.{◌∙◌, ap, if◌then◌else◌}
+use Rattle.std.proofs.Common.{◌≡◌, ◌∙◌, ap, Option, List, ℕ, if◌then◌else◌}
 use Rattle.std.specs.Str.{bytes_eq}
-use Rattle.lab_base.specs.declared.boot.Boot.{Boot}
-use Rattle.plant_mem.specs.Boots.{state_in}
-use Rattle.plant_mem.proofs.States.{set_all}
+use Rattle.plant_mem.specs.Boots.{os_in}
+use Rattle.plant_mem.specs.declared.nodes.NodeState.{NodeState}
+use Rattle.plant_mem.proofs.NodeLaws.{kept}
 use Rattle.plant_mem.proofs.nodes.set_state.Goals as goal
 
-pub returns-clause-states : goal.returns-clause-states
-returns-clause-states c name =
-    ap (state_in name) c.set_each.ensures.items
-    ∙ set_all c.args.node.now name c.args.state c.add_missing.new.nodes.items c.add_missing.ensures.has
-    ∙ ap (λ (s : Boot). if bytes_eq c.args.node.now name then c.args.state else s) (c.add_missing.ensures.states name)
+pub returns-clause-oses : goal.returns-clause-oses
+returns-clause-oses c name =
+    let nodes = c.args.nodes.now.items in
+    let os : c.os_in-os.result ≡ os_in c.args.node.now nodes = c.os_in-os.ensures ∙ ap (λ (l : List NodeState). os_in c.args.node.now l) c.deref.ensures.value in
+    c.set.ensures.oses name
+    ∙ ap (λ (o : Option (List ℕ)). if bytes_eq c.args.node.now name then o else os_in name nodes) os
+    ∙ kept (λ n. os_in n nodes) c.args.node.now name

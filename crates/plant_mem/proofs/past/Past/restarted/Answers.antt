@@ -48,7 +48,7 @@ invariant_of-self-3 c =
       within = after.within;
       a_is = c.restore.ensures.left ∙ sym (after.disks A);
       b_is = c.restore-2.ensures.left ∙ sym (after.disks B);
-      known = still (trace_of self.bytes.items self.steps.items) (trace_of c.extend_from_slice-2.new.self.items c.add_step.new.steps.items) self.nodes.items after.worlds self.known;
+      known = still (trace_of self.bytes.items self.steps.items) (trace_of c.extend_from_slice-2.new.self.items c.add_step.new.steps.items) self.nodes.nodes.items self.nodes.pipes.items after.worlds self.known;
       rows_are = rows_still (trace_of self.bytes.items self.steps.items) (trace_of c.extend_from_slice-2.new.self.items c.add_step.new.steps.items) self.rows.items after.worlds self.rows_are;
     }
 

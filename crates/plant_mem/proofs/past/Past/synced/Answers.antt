@@ -23,6 +23,6 @@ invariant_of-self c =
       within = after.within;
       a_is = c.sync_on.ensures.a ∙ ap (on_side (same_side c.args.side A) synced) self.a_is ∙ sym (after.disks A);
       b_is = c.sync_on.ensures.b ∙ ap (on_side (same_side c.args.side B) synced) self.b_is ∙ sym (after.disks B);
-      known = still (trace_of self.bytes.items self.steps.items) (trace_of self.bytes.items c.add_step.new.steps.items) self.nodes.items after.worlds self.known;
+      known = still (trace_of self.bytes.items self.steps.items) (trace_of self.bytes.items c.add_step.new.steps.items) self.nodes.nodes.items self.nodes.pipes.items after.worlds self.known;
       rows_are = rows_still (trace_of self.bytes.items self.steps.items) (trace_of self.bytes.items c.add_step.new.steps.items) self.rows.items after.worlds self.rows_are;
     }

@@ -1,9 +1,0 @@
-use Rattle.std.proofs.Common.{◌≡◌, take}
-use Rattle.std.specs.Prelude.{is_some}
-use Rattle.plant_mem.specs.MemLab.{bytes_of}
-use Rattle.plant_mem.specs.Steps.{trace_of}
-use Rattle.plant.specs.Worlds.{world_of}
-use Rattle.plant_mem.proofs.mem.MemLab.has_pipe.Given as goal
-
-abbrev pub invariant-loop-step : goal.invariant-loop-step
-invariant-loop-step l = l.set ≡ is_some (((world_of (trace_of (bytes_of l.self) (take l.step-index l.step-items))).node l.node).pipes l.pipe)
