@@ -43,6 +43,7 @@ pub mod OuterSteps
 mod Parts
 pub mod Places
 pub mod PlayTells
+pub mod PlayWirings
 mod Refusals
 pub mod Rested
 pub mod Runs

@@ -95,7 +95,7 @@ module _ (exp : List ℕ) where
     told = λ told is. subst (λ r. TellsPlace r u) (same_Some reply told is) place;
   }
 
-  going_on : (ended : Option Reply) (left : List LinkEvent) → (is_some ended || none_left exp left) ≡ false → ended ≡ None
+  pub going_on : (ended : Option Reply) (left : List LinkEvent) → (is_some ended || none_left exp left) ≡ false → ended ≡ None
   going_on None left is = refl
   going_on (Some reply) left is = absurd (cc is)
 
@@ -144,7 +144,7 @@ module _ (exp : List ℕ) where
 
 -- A PLAY begins where its experiment is in
 module _ (s : LabState) (busy : Bool) (exp : List ℕ) (lab : Lab) (e : Experiment) (is : need_idle_in s busy exp ≡ Ok (lab, e)) where
-  found_is : find exp s.experiments ≡ Some e
+  pub found_is : find exp s.experiments ≡ Some e
   found_is = grind arith
 
   need_is : need_in exp e.phase ≡ Ok tt
@@ -155,14 +155,14 @@ in_is exp phases.Out is = absurd (cc is)
 in_is exp (phases.In mapping tags) is = refl
 in_is exp (phases.Moving old new) is = absurd (cc is)
 
-starts_in : (s : LabState) (busy : Bool) (exp : List ℕ) (p : Lab × Experiment) → need_idle_in s busy exp ≡ Ok p → IsThere is_in s exp
+pub starts_in : (s : LabState) (busy : Bool) (exp : List ℕ) (p : Lab × Experiment) → need_idle_in s busy exp ≡ Ok p → IsThere is_in s exp
 starts_in s busy exp p is = record { experiment = p.1; found = found_is s busy exp p.0 p.1 is; is_so = in_is exp p.1.phase (need_is s busy exp p.0 p.1 is) }
 
-abbrev is_played : Reply → Bool
+abbrev pub is_played : Reply → Bool
 is_played (replies.Played exp played last closing blaming) = true
 is_played reply = false
 
-idle_plain : (s : LabState) (busy : Bool) (exp : List ℕ) (reply : Reply) → need_idle_in s busy exp ≡ Err reply → is_played reply ≡ false
+pub idle_plain : (s : LabState) (busy : Bool) (exp : List ℕ) (reply : Reply) → need_idle_in s busy exp ≡ Err reply → is_played reply ≡ false
 idle_plain s busy exp reply is = grind arith
 
 plays_start : (s : LabState) (opens : List OpenSwap) (exp : List ℕ) (from until : ℕ) (text : List ℕ) (start : Playing) → JudgedPlay s opens exp from until text (Ok start) → At exp start s
@@ -185,7 +185,7 @@ module _ (exp : List ℕ) (from until : ℕ) (text : List ℕ) (base : Ground) (
   plays_tell s opens own (list_no_memory wants) = let none' : None ≡ Some reply = sym (ap (λ (a : After). a.reply) wants.after_is) ∙ replied in absurd (cc none')
   plays_tell s opens own (listed start judged lists) = lists_at exp base trace start s opens own after reply (plays_start s opens exp from until text start judged) replied lists not_stopped
 
-breaks_not : {X : Type 0} (events : List Event) (told : Option Reply) (reply : Reply) → told ≡ Some reply → is_played reply ≡ true → Breaks events told → X
+pub breaks_not : {X : Type 0} (events : List Event) (told : Option Reply) (reply : Reply) → told ≡ Some reply → is_played reply ≡ true → Breaks events told → X
 breaks_not events told reply is played (stopped ended so) = let same : reply ≡ replies.Stopped = same_Some _ _ (sym is ∙ so) in let both : true ≡ false = sym played ∙ ap is_played same in absurd (cc both)
 breaks_not events told reply is played (failed once miss so) = let same : reply ≡ replies.Down = same_Some _ _ (sym is ∙ so) in let both : true ≡ false = sym played ∙ ap is_played same in absurd (cc both)
 breaks_not events told reply is played (unanswered none') = let both : None ≡ Some reply = sym none' ∙ is in absurd (cc both)

@@ -15,6 +15,7 @@ pub mod Opening
 pub mod Perform
 pub mod PlayList
 pub mod PlayTells
+pub mod PlayWirings
 pub mod Queues
 pub mod Recovery
 pub mod Said

@@ -6,7 +6,7 @@ ghost use Rattle.plant.specs.Worlds.{world_of};
 ghost use Rattle.journal_rec.specs.declared.record.Record.TheVariants.{Begin};
 ghost use Rattle.journal_rec.specs.declared.record.Way.{Way};
 ghost use Rattle.cost_rule.specs.declared.rule.RuleNumber.{RuleNumber};
-ghost use Rattle.records_model.specs.Labs.{LabState, Move, Sane, Says, find, lab_in};
+ghost use Rattle.records_model.specs.Labs.{HasText, LabState, Move, Sane, Says, find, lab_in};
 ghost use Rattle.records_model.specs.Works.{IsSound};
 ghost use Rattle.lab_state.specs.Texts.{the_texts};
 ghost use Rattle.swap_turns.specs.Pieces.{has_command, has_miss, has_restart};
@@ -19,6 +19,7 @@ ghost use Rattle.script_text.specs.declared.reply.Reply.TheVariants.{In, More, P
 ghost use Rattle.script_text.specs.declared.reply.Served.{Served};
 ghost use Rattle.lab_core.specs.BatchLines.{BatchTells, there_in};
 ghost use Rattle.lab_core.specs.PlayTells.{PlayTells};
+ghost use Rattle.lab_core.specs.PlayWirings.{AreApplied, AreWiredBy, PlayWires, found_there};
 ghost use Rattle.lab_core.specs.Recovery.{EndedIn, Opens};
 ghost use Rattle.swap_turns.specs.Settling.{Settles};
 ghost use Rattle.swap_turns.specs.Swaps.{Swap as Swapped};
@@ -29,6 +30,10 @@ ghost use Rattle.lab_base.specs.Lists.{AllDiffer, Has};
 ghost use Rattle.lab_model.specs.Leavings.{SameFor};
 ghost use Rattle.lab_model.specs.Sound.{is_moving};
 ghost use Rattle.virt_topo.specs.declared.experiment.Experiment.{Experiment};
+ghost use Rattle.virt_topo.specs.declared.wiring.Wiring.{Wiring};
+ghost use Rattle.virt_topo.specs.Soundness.{IsSound as IsSoundWiring};
+ghost use Rattle.ns_events.specs.Changes.{KeepsLimits};
+ghost use Rattle.ns_events.specs.declared.event.Event.{Event as LinkEvent};
 ghost use Rattle.lab_core.specs.LabSteps.{LabStepBy};
 ghost use Rattle.lab_core.specs.BatchList.{runs_in_turn};
 ghost use Rattle.lab_core.specs.Commands.{LabStep, Serves, is_about};
@@ -52,6 +57,8 @@ use swap_mgr::MAX_OPEN;
 /// The lines of a reply to `batch` are replies to the first runs of its text, in order, and where one tells that an experiment is, there it is behind
 /// the whole, if no later run is of it. The reply to `play` tells how many events were answered `in`, and the reply that ended it, if one did; then the
 /// experiment is where that tells, and in still where that is a refusal; else it is in.
+/// Where that reply doesn't close the controller, so many of the due events, in their order, led to the wiring that the experiment has behind it.
+/// Each wiring is the one that its event leaves, where the text is sound, the events keep the limits, and the wiring of before has a text.
 /// A reply that is of no steps comes without any of the command's own: a refusal, and a reply that only tells something, of lists and audits too.
 /// A reading of a device failed exactly where the reply is `unread` with its name. Only an audit is answered so, and that reading is its one step.
 pub fn lab_steps()
@@ -101,6 +108,16 @@ pub fn lab_steps()
         (text last : List ℕ) (closing blaming : Bool) (opening own : List Event) (after : After)
         → LabStep terms at set s session (Play exp from until lines text) opening own after → after.reply ≡ Some (Played name count last closing blaming)
         → PlayTells (there_in after.lab) exp (Played name count last closing blaming) }
+    ensures wired { (terms : Terms) (at : Option (List Event)) (set : Setting) (s : LabState) (session : Session) (exp name : List ℕ)
+        (from until lines count : ℕ)
+        (text last : List ℕ) (closing blaming : Bool) (opening own : List Event) (after : After)
+        → LabStep terms at set s session (Play exp from until lines text) opening own after → after.reply ≡ Some (Played name count last closing blaming)
+        → closing ≡ false
+        → (mid : LabState) × BeginsAt session s opening mid
+        × PlayWires (found_there after.lab exp) mid exp from until text (Played name count last closing blaming) }
+    ensures applied { (text before after : Wiring) (events : List LinkEvent)
+        → IsSoundWiring text → ((event : LinkEvent) → Has events event → KeepsLimits event.what) → HasText the_texts before
+        → AreWiredBy text events before after → AreApplied text events before after }
     ensures idle { (terms : Terms) (at : Option (List Event)) (set : Setting) (s : LabState) (session : Session) (command : Command) (opening own : List Event)
         (after : After) (reply : Reply)
         → LabStep terms at set s session command opening own after → after.reply ≡ Some reply → is_of_steps reply ≡ false → own ≡ [] }

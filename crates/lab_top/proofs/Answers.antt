@@ -25,11 +25,11 @@ use Rattle.plant.specs.declared.drill.Drill.{Drill}
 use Rattle.script_text.specs.Drills.{drill_of}
 use Rattle.script_text.specs.Replies.{closes}
 use Rattle.script_text.specs.declared.reply.Served.{Served}
-use Rattle.lab_core.specs.Tells.{IsAtRest, IsInBy, IsThere, is_in, is_of_drill}
+use Rattle.lab_core.specs.Tells.{BeginsAt, IsAtRest, IsInBy, IsThere, is_in, is_of_drill}
 use Rattle.lab_core.proofs.ListSteps.{all_place}
 use Rattle.lab_core.proofs.Rested.{opened_rest}
 use Rattle.lab_core.proofs.Said.{as_said}
-use Rattle.lab_top.specs.Pieces.{Piece, Begun, AllHave, AllRestBut, AreAll, AreOthers, ImagesAfter, IsPlannedAs, IsPlannedBy, OpensTo, TellsAll, leaves_one, may_shut, steps_of, trace_after}
+use Rattle.lab_top.specs.Pieces.{Piece, Begun, AllHave, AllRestBut, AreAll, AreAllAs, AreOthers, FirstLab, ImagesAfter, IsPlannedAs, IsPlannedBy, OpensTo, TellsAll, is_early, leaves_one, may_shut, steps_of, trace_after}
 use Rattle.lab_top.specs.Ran.{Outside, Ran}
 use Rattle.lab_words.specs.Words.{Choices}
 use Rattle.lab_core.specs.Commands.{LabStep}
@@ -38,8 +38,10 @@ use Rattle.script_text.specs.declared.command.Command.{Command}
 use Rattle.script_text.specs.declared.command.Command.TheVariants.{Batch, Play, SwapinWith}
 use Rattle.lab_core.specs.BatchLines.{BatchTells, there_in}
 use Rattle.lab_core.specs.PlayTells.{PlayTells}
+use Rattle.lab_core.specs.PlayWirings.{PlayWires, found_there}
 use Rattle.lab_core.proofs.BatchLines.{batch_so, batch_tells}
 use Rattle.lab_core.proofs.PlayTells.{play_so, play_tells}
+use Rattle.lab_core.proofs.PlayWirings.{play_wires, wires_so}
 use Rattle.lab_core.proofs.BySolution.{in_by}
 use Rattle.lab_top.proofs.Pieces.{trace-push}
 use Rattle.lab_top.specs.declared.status.Status.{Status}
@@ -156,6 +158,39 @@ module _ (terms : Terms) (choices : Option Choices) (old new : Outside) (status 
       let never : may_shut (Some reply) ≡ false = ap (λ x. may_shut (Some x)) is ∙ mild in
       play_so (there_in last) (λ is exp. AreOthers exp middle → AreAll is (trace_after t.trace (before ++ b ∷ middle)) exp)
       (λ exp there. later is_in in_rests exp inner never there) (λ exp there. later is_out out_rests exp inner never there) exp (replies.Played name count ended closing blaming) tells
+
+  -- THE WIRING behind such a play
+  pub wired_told : (exp name text ended : List ℕ) (from until lines count : ℕ) (closing blaming : Bool) → b.piece.command ≡ Play exp from until lines text → reply ≡ replies.Played name count ended closing blaming → closing ≡ false
+      → (s : LabState) × FirstLab (is_early b.piece) trace s × (mid : LabState) × BeginsAt b.piece.from s b.piece.opening mid
+      × PlayWires (AreAllAs exp (trace_after t.trace (before ++ b ∷ [])) middle) mid exp from until text (replies.Played name count ended closing blaming)
+  wired_told exp name text ended from until lines count closing blaming asks is mild =
+      let l = (done terms choices old new status before (middle ++ after) b t r told sound).leads in
+      let own = b.piece.own ++ l.steps.behind in
+      let set : Setting = record { length = l.steps.length; limit = 2 ^ 32; devices = b.piece.faults.devices } in
+      let end : After = record { reply = l.steps.told; lab = l.last; session = l.steps.session } in
+      let step : LabStep terms (Some trace) set l.first b.piece.from (Play exp from until lines text) b.piece.opening own end
+      = subst (λ (c : Command). LabStep terms (Some trace) set l.first b.piece.from c b.piece.opening own end) asks l.steps.step in
+      let wires = play_wires terms (Some trace) set l.first b.piece.from exp name from until lines count text ended closing blaming b.piece.opening own end
+      ((told_of terms trace b.piece l.first l.last l.steps reply replied).0 ∙ ap (λ x. Some x) is) mild step in
+      let inner : is_of_drill reply ≡ false = ap is_of_drill is in
+      let never : may_shut (Some reply) ≡ false = ap (λ x. may_shut (Some x)) is ∙ mild in (
+        l.first,
+        l.before,
+        wires.0,
+        wires.1,
+        wires_so (found_there last exp) (AreAllAs exp (trace_after t.trace (before ++ b ∷ [])) middle) (λ e found. all_as exp inner never e found) wires.0 exp from until text (replies.Played name count ended closing blaming) wires.2,
+      )
+    where
+      all_as : (exp : List ℕ) → is_of_drill reply ≡ false → may_shut (Some reply) ≡ false → (e : Experiment) → find exp last.experiments ≡ Some e → AreAllAs exp (trace_after t.trace (before ++ b ∷ [])) middle e
+      all_as exp inner never e found =
+          let named : e.name ≡ exp = (found_from exp last.experiments e found).name_is in
+          let have : AllHave (trace ++ steps_of b.piece) e = (λ x y possible. (last, all_stand inner never x y possible, ap (λ n. find n last.experiments) named ∙ found)) in
+          let here = behind terms t.trace before (b ∷ (middle ++ after)) (pieces_of terms choices old new status (before ++ b ∷ (middle ++ after)) t r told) sound in
+          subst (λ (x : List Event). AreAllAs exp x middle e) (sym (trace-push t.trace before b)) (record {
+            named = named;
+            at_once = have;
+            on = λ rests others. pieces_keep terms (trace ++ steps_of b.piece) middle after e here.0.1 (here.0.0.done here.1).sound (at_rest e middle rests) have (subst (λ n. AreOthers n middle) (sym named) others);
+          })
 
 -- ONE THAT IS ANSWERED AS IN by a supplied solution is in by it, in the lab that all images stand for
 pub inside_told : (terms : Terms) (choices : Option Choices) (old new : Outside) (status : Status) (before after : List Begun) (b : Begun) (t : Told) (r : Ran terms choices old new status (before ++ b ∷ after)) (told : old.plant.told ≡ Some t)

@@ -388,6 +388,12 @@ pub record AreAll (is : Phase → Bool) (trace : List Event) (exp : List ℕ) : 
   pub is_so : is experiment.phase ≡ true
   pub all : AllHave trace experiment
 
+-- an experiment of that name is so in each possible image of the trace; and behind later commands that are about others, too, if it doesn't move
+pub record AreAllAs (exp : List ℕ) (trace : List Event) (later : List Begun) (e : Experiment) : Type 0 where
+  pub named : e.name ≡ exp
+  pub at_once : AllHave trace e
+  pub on : is_moving e ≡ false → AreOthers exp later → AllHave (trace_after trace later) e
+
 abbrev pub TellsAll : Reply → List Begun → List Event → Type 0
 TellsAll (In exp) later trace = AreOthers exp later → AreAll is_in trace exp
 TellsAll (Out exp) later trace = AreOthers exp later → AreAll is_out trace exp

@@ -28,13 +28,14 @@ ghost use Rattle.script_text.specs.Replies.{closes};
 ghost use Rattle.lab_core.specs.Moments.{AllStandFor, IsLabAt, IsNoJournal, StandForLab};
 ghost use Rattle.lab_core.specs.BatchLines.{BatchTells};
 ghost use Rattle.lab_core.specs.PlayTells.{PlayTells};
+ghost use Rattle.lab_core.specs.PlayWirings.{PlayWires};
 ghost use Rattle.lab_core.specs.Recovery.{EndedIn, HasRecovered};
 ghost use Rattle.recovery.specs.Due.{swaps_of};
 ghost use Rattle.lab_core.specs.Sessions.{OpenSwap, Closed, open_at, Terms};
 ghost use Rattle.lab_core.specs.Tells.{BeginsAt, IsAtRest, busy_of, IsFeasibleFor, IsInBy, Hinders, is_of_drill, is_stopped, IsThere, IsTurn, IsTurnOf, SendsOne, opens_of, taken_reply, TellsBroken};
 ghost use Rattle.plant.specs.Events.{Event, Unread};
 ghost use Rattle.lab_top.specs.Reports.{ChangesNothing, TellsDifference};
-ghost use Rattle.lab_top.specs.Pieces.{Begun, Piece, TellsAll, AllHave, AllRestBut, AreAll, AreOn, AreOthers, FirstLab, HasOpened, OpensTo, StayOpen, is_closed, is_early, session_after, steps_of, trace_after};
+ghost use Rattle.lab_top.specs.Pieces.{Begun, Piece, TellsAll, AllHave, AllRestBut, AreAll, AreAllAs, AreOn, AreOthers, FirstLab, HasOpened, OpensTo, StayOpen, is_closed, is_early, session_after, steps_of, trace_after};
 ghost use Rattle.lab_top.specs.Ran.{Outside, Ran};
 ghost use Rattle.lab_words.specs.Words.{Choices};
 ghost use Rattle.lab_top.specs.declared.status.Status.{Status};
@@ -59,6 +60,8 @@ pub fn bad_journals()
 /// A line of a reply to `batch` tells what is so, like any reply, if no later run of that batch is of the experiment; and so does the reply that ended a
 /// `play`, and where none did, the experiment is in. Where such a reply closes the controller, its earlier lines hold too, in each image that
 /// a later stop may leave.
+/// Where the reply to a `play` doesn't close the controller, so many of the due events, in their order, led to the wiring that the experiment has in
+/// every image that a stop may leave.
 /// An experiment that doesn't move stays as it is, in every image that a later stop may leave, until a later command on it.
 /// The reply is `stopped` exactly where the plant stopped, and a command that is no drill has no reply of a drill, both whatever the trace was
 /// before. The empty trace is sound.
@@ -89,6 +92,12 @@ pub fn runs()
         → Ran terms choices old new status (before ++ b ∷ (middle ++ after)) → old.plant.told ≡ Some t → IsSound the_texts t.trace
         → b.piece.command ≡ Play exp from until lines text → b.piece.reply ≡ Some (Played name count last closing blaming) → closing ≡ false
         → PlayTells (λ is exp. AreOthers exp middle → AreAll is (trace_after t.trace (before ++ b ∷ middle)) exp) exp (Played name count last closing blaming) }
+    ensures wired { (terms : Terms) (choices : Option Choices) (old new : Outside) (status : Status) (before middle after : List Begun) (b : Begun) (t : Told)
+        (exp name text last : List ℕ) (from until lines count : ℕ) (closing blaming : Bool)
+        → Ran terms choices old new status (before ++ b ∷ (middle ++ after)) → old.plant.told ≡ Some t → IsSound the_texts t.trace
+        → b.piece.command ≡ Play exp from until lines text → b.piece.reply ≡ Some (Played name count last closing blaming) → closing ≡ false
+        → (s : LabState) × FirstLab (is_early b.piece) (trace_after t.trace before) s × (mid : LabState) × BeginsAt b.piece.from s b.piece.opening mid
+        × PlayWires (AreAllAs exp (trace_after t.trace (before ++ b ∷ [])) middle) mid exp from until text (Played name count last closing blaming) }
     ensures lines_left { (terms : Terms) (choices : Option Choices) (old new : Outside) (status : Status) (before middle after : List Begun) (b : Begun)
         (t : Told) (moment lines : ℕ) (text : List ℕ) (served : Served)
         → Ran terms choices old new status (before ++ b ∷ (middle ++ after)) → old.plant.told ≡ Some t → IsSound the_texts t.trace

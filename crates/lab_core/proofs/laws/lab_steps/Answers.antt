@@ -5,6 +5,7 @@ use Rattle.lab_judge.specs.Judge.{Tell, Swap}
 use Rattle.lab_judge.proofs.Judgements.{judged_once}
 use Rattle.lab_core.proofs.BatchLines.{batch_tells}
 use Rattle.lab_core.proofs.PlayTells.{play_tells}
+use Rattle.lab_core.proofs.PlayWirings.{all_applied, play_wires}
 use Rattle.lab_core.proofs.Refusals.{step_idle}
 use Rattle.lab_core.proofs.StepLaws.{was, by_one, no_steps_refused, no_steps_told, step_once, swap_tells}
 use Rattle.lab_core.proofs.ListSteps.{all_drills, all_stay, all_stop, plain_step}
@@ -48,6 +49,13 @@ returns-clause-served c = λ terms at set s session moment lines text opening ow
 pub returns-clause-played : goal.returns-clause-played
 returns-clause-played c = λ terms at set s session exp name from until lines count text last closing blaming opening own after step is.
     play_tells terms at set s session exp name from until lines count text last closing blaming opening own after is step
+
+pub returns-clause-wired : goal.returns-clause-wired
+returns-clause-wired c = λ terms at set s session exp name from until lines count text last closing blaming opening own after step is mild.
+    play_wires terms at set s session exp name from until lines count text last closing blaming opening own after is mild step
+
+pub returns-clause-applied : goal.returns-clause-applied
+returns-clause-applied c = λ text before after events sound keeps has are. all_applied text events before after sound keeps has are
 
 pub returns-clause-unread : goal.returns-clause-unread
 returns-clause-unread c = λ terms at set s session command opening own after reply name step is. tells_unread command opening own reply name (all_stop terms at set s session opening own after command reply is step)

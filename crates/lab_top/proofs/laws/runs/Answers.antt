@@ -5,7 +5,7 @@ use Rattle.lab_state.specs.Texts.{the_texts}
 use Rattle.lab_core.proofs.OuterSteps.{tells_stop}
 use Rattle.lab_top.proofs.Moving.{moves_first}
 use Rattle.lab_top.proofs.RunLaws.{are_kept, steps_told, swapped_in, undrilled_told}
-use Rattle.lab_top.proofs.Answers.{inside_told, lines_told, played_told, stays_told}
+use Rattle.lab_top.proofs.Answers.{inside_told, lines_told, played_told, stays_told, wired_told}
 use Rattle.lab_top.proofs.EachImage.{lines_left, played_left}
 use Rattle.lab_top.proofs.Scripts.{script_once}
 use Rattle.lab_top.proofs.laws.runs.Goals as goal
@@ -27,6 +27,10 @@ returns-clause-lines c = λ terms choices old new status before middle after b t
 pub returns-clause-played : goal.returns-clause-played
 returns-clause-played c = λ terms choices old new status before middle after b t exp name text last from until lines count closing blaming r told sound asks replied mild.
     played_told terms choices old new status before middle after b t r told sound (Played name count last closing blaming) replied exp name text last from until lines count closing blaming asks refl mild
+
+pub returns-clause-wired : goal.returns-clause-wired
+returns-clause-wired c = λ terms choices old new status before middle after b t exp name text last from until lines count closing blaming r told sound asks replied mild.
+    wired_told terms choices old new status before middle after b t r told sound (Played name count last closing blaming) replied exp name text last from until lines count closing blaming asks refl mild
 
 pub returns-clause-lines_left : goal.returns-clause-lines_left
 returns-clause-lines_left c = λ terms choices old new status before middle after b t moment lines text served r told sound asks replied.
