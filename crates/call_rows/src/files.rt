@@ -1,8 +1,7 @@
 // Calls of a plant in files.
 use lab_base::{Boot, Name, VlanId};
-use plant::{Answer, DeviceOp, Drill, DrillFault, Fault, Plant, Side};
+use plant::{Answer, DeviceOp, Drill, DrillFault, Fault, Plant, ReadFailed, Side, Tables};
 use plant_file::FileLab;
-use plant_tables::{ReadFailed, Tables};
 use std::fs;
 use std::test::Fail;
 

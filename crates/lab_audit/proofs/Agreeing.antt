@@ -11,8 +11,8 @@ use Rattle.lab_base.specs.Lists.{Has, Apart}
 use Rattle.lab_base.proofs.Members.{Has-map, Has-mapped}
 use Rattle.plant.specs.Worlds as worlds
 use Rattle.plant.specs.declared.device.NodeRow.{NodeRow}
-use Rattle.plant_tables.specs.Readings.{TellsNode, pipe_of}
-use Rattle.plant_tables.specs.declared.pipe_row.PipeRow.{PipeRow}
+use Rattle.plant.specs.Readings.{TellsNode, pipe_of}
+use Rattle.plant.specs.declared.pipe_row.PipeRow.{PipeRow}
 use Rattle.lab_model.specs.Cabled.{SameNode}
 use Rattle.lab_audit.specs.Nodes.{same_rates, same_pipe, agree, state_if, row_with}
 use Rattle.lab_audit.specs.Reads.{ArePipes}

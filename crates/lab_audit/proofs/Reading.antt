@@ -11,11 +11,11 @@ use Rattle.plant.specs.Seen.{Seen}
 use Rattle.plant.specs.Told.{Told, with_steps}
 use Rattle.plant.specs.Worlds.{World, NodeRow}
 use Rattle.plant.proofs.Traces.{with_steps-nil}
-use Rattle.plant_tables.specs.Readings.{IsBefore, IsEntry, IsNth, HasPipe, RowsFit, PipesFit, TellsRow, TellsPipe, entry_of, pipe_of}
-use Rattle.plant_tables.specs.declared.pipe_row.PipeRow.{PipeRow}
-use Rattle.plant_tables.proofs.Fronts.{IsFront, none_left, one_more}
-use Rattle.plant_tables.proofs.Full.{all_entries, all_numbers}
-use Rattle.plant_tables.proofs.Orders.{entries, numbers}
+use Rattle.plant.specs.Readings.{IsBefore, IsEntry, IsNth, HasPipe, RowsFit, PipesFit, TellsRow, TellsPipe, entry_of, pipe_of}
+use Rattle.plant.specs.declared.pipe_row.PipeRow.{PipeRow}
+use Rattle.plant.proofs.Fronts.{IsFront, none_left, one_more}
+use Rattle.plant.proofs.Full.{all_entries, all_numbers}
+use Rattle.plant.proofs.Orders.{entries, numbers}
 use Rattle.lab_audit.specs.Reads.{Reads, ArePipes, steps_of}
 
 pub none_read : (s : Seen) → Reads s s None

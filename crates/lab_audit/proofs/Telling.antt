@@ -11,7 +11,7 @@ use Rattle.lab_base.proofs.Members.{Has-append, Has-left, Has-right, Has-map, Ha
 use Rattle.phys_lab.specs.Labs.{Lab}
 use Rattle.virt_topo.specs.declared.experiment.Experiment.{Experiment}
 use Rattle.plant.specs.Worlds.{Row, World}
-use Rattle.plant_tables.specs.Readings.{IsEntry, entry_of}
+use Rattle.plant.specs.Readings.{IsEntry, entry_of}
 use Rattle.script_text.specs.declared.reply.AuditLine.{AuditLine}
 use Rattle.script_text.specs.declared.reply.AuditLine.TheVariants.{Lacks, Strange, Node}
 use Rattle.lab_audit.specs.declared.wanted.Wanted.{Wanted}

@@ -8,7 +8,7 @@ use Rattle.virt_topo.specs.declared.experiment.Phase.TheVariants.{Out, In, Movin
 use Rattle.virt_topo.specs.declared.mapping.Mapped.{Mapped}
 use Rattle.virt_topo.specs.declared.wiring.Wiring.{Wiring}
 use Rattle.plant.specs.Worlds.{Row, World, wiped}
-use Rattle.plant_tables.specs.Readings.{IsBefore}
+use Rattle.plant.specs.Readings.{IsBefore}
 use Rattle.lab_model.specs.Cabled.{SameNode}
 use Rattle.lab_model.specs.Claims.{Places, Claims, IsOf}
 use Rattle.lab_model.specs.Courses.{node_names}

@@ -10,8 +10,8 @@ use Rattle.virt_topo.specs.declared.experiment.Experiment.{Experiment}
 use Rattle.virt_topo.specs.declared.mapping.Mapped.{Mapped}
 use Rattle.plant.specs.Worlds.{NodeRow, World}
 use Rattle.plant.specs.Worlds as worlds
-use Rattle.plant_tables.specs.Readings.{pipe_of}
-use Rattle.plant_tables.specs.declared.pipe_row.PipeRow.{PipeRow}
+use Rattle.plant.specs.Readings.{pipe_of}
+use Rattle.plant.specs.declared.pipe_row.PipeRow.{PipeRow}
 use Rattle.lab_model.specs.Cabled.{SameNode}
 use Rattle.lab_model.specs.Claims.{claims_it}
 use Rattle.lab_model.specs.Wants.{node_row_of}

@@ -6,8 +6,8 @@ use Rattle.plant.specs.Events.{Event, Unread}
 use Rattle.plant.specs.Seen.{Seen}
 use Rattle.plant.specs.Told.{with_steps}
 use Rattle.plant.specs.Worlds.{NodeRow}
-use Rattle.plant_tables.specs.Readings.{IsListOf, HasPipe, pipe_of}
-use Rattle.plant_tables.specs.declared.pipe_row.PipeRow.{PipeRow}
+use Rattle.plant.specs.Readings.{IsListOf, HasPipe, pipe_of}
+use Rattle.plant.specs.declared.pipe_row.PipeRow.{PipeRow}
 use Rattle.lab_audit.specs.declared.fault.AuditFault.{AuditFault}
 use Rattle.lab_audit.specs.declared.fault.AuditFault.TheVariants as faults
 

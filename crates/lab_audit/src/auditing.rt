@@ -10,7 +10,7 @@ use crate::switch_lines::{append, switch_lines};
 use crate::{AuditFault, Report};
 use lab_base::Items;
 use lab_state::LabState;
-use plant_tables::Tables;
+use plant::Tables;
 use std::alloc::Global;
 
 /// Compares what the devices of a lab hold with what its experiments want of them.

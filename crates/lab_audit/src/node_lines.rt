@@ -21,7 +21,7 @@ use lab_base::{Items, Memory, Name, NodeId};
 use lab_model::name_at;
 use lab_state::LabState;
 use phys_lab::Lab;
-use plant_tables::Tables;
+use plant::Tables;
 use script_text::AuditLine;
 use std::alloc::Global;
 use swap_plan::node_row_of;

@@ -1,7 +1,7 @@
 // Whether a node is as it is wanted.
 ghost use Rattle.std.specs.Prelude.{◌≡◌, ◌↔◌, is_some, true, IfOk, IfSome};
 ghost use Rattle.plant.specs.Worlds.{world_of};
-ghost use Rattle.plant_tables.specs.Readings.{pipe_of};
+ghost use Rattle.plant.specs.Readings.{pipe_of};
 ghost use Rattle.lab_model.specs.Cabled.{SameNode};
 ghost use Rattle.lab_audit.specs.Nodes.{agree, same_pipe, same_rates, state_if, row_with};
 ghost use Rattle.lab_audit.specs.Reads.{Reads, unread_by};
@@ -9,8 +9,7 @@ ghost use Rattle.lab_audit.specs.Reads.{Reads, unread_by};
 use crate::AuditFault;
 use crate::readings::{node_at, pipes_of};
 use lab_base::{Boot, Name, Rates};
-use plant::NodeRow;
-use plant_tables::{PipeRow, Tables};
+use plant::{NodeRow, PipeRow, Tables};
 use std::alloc::Global;
 use swap_plan::NodePipe;
 

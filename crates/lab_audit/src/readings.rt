@@ -1,13 +1,12 @@
 ghost use Rattle.std.specs.Prelude.{◌↔◌, ℕ, map, IfOk, OnOk, IfSome};
 ghost use Rattle.lab_base.specs.Lists.{Has};
 ghost use Rattle.plant.specs.Worlds.{world_of};
-ghost use Rattle.plant_tables.specs.Readings.{IsEntry, entry_of, TellsRow, TellsNode, TellsPipe, RowsFit, PipesFit};
+ghost use Rattle.plant.specs.Readings.{IsEntry, entry_of, TellsRow, TellsNode, TellsPipe, RowsFit, PipesFit};
 ghost use Rattle.lab_audit.specs.Reads.{Reads, unread_by, ArePipes};
 
 use crate::AuditFault;
 use lab_base::{Items, Name, VlanId};
-use plant::NodeRow;
-use plant_tables::{MAX_PIPES, PipeRow, Tables};
+use plant::{MAX_PIPES, NodeRow, PipeRow, Tables};
 use std::alloc::Global;
 
 /// The number of rows that a port and a VLAN id can make.

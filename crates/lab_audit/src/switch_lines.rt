@@ -14,7 +14,7 @@ use crate::wanted::Wanted;
 use crate::{AuditFault, Report};
 use lab_base::{Items, Memory, Name};
 use phys_lab::Lab;
-use plant_tables::Tables;
+use plant::Tables;
 use script_text::AuditLine;
 use std::alloc::Global;
 

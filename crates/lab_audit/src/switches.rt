@@ -6,7 +6,7 @@ ghost use Rattle.lab_base.specs.Lists.{Has, listed};
 ghost use Rattle.phys_lab.specs.Labs.{Lab as AnyLab};
 ghost use Rattle.virt_topo.specs.declared.experiment.Experiment.{Experiment as AnyExperiment};
 ghost use Rattle.plant.specs.Worlds.{World};
-ghost use Rattle.plant_tables.specs.Readings.{IsEntry, entry_of};
+ghost use Rattle.plant.specs.Readings.{IsEntry, entry_of};
 ghost use Rattle.lab_audit.specs.Diff.{AreLinesOf};
 ghost use Rattle.lab_audit.specs.Lines.{AreAllWanted, is_found, is_wanted_at, lacking_line, strange_line};
 

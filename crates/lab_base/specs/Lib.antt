@@ -4,5 +4,6 @@ pub mod Numbers
 pub mod Kinds
 pub mod Texts
 pub mod Parts
+pub mod Pieces
 pub mod Lists
 pub mod Counts

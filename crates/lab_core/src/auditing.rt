@@ -10,7 +10,7 @@ ghost use Rattle.lab_core.specs.Sessions.{OpenSwap};
 use crate::controller::Controller;
 use crate::fault::CoreFault;
 use lab_audit::{AuditFault, audit};
-use plant_tables::Tables;
+use plant::Tables;
 use script_text::Reply;
 
 /// The reply to an audit that a reading broke off.

@@ -12,8 +12,7 @@ use crate::tellers::Teller;
 use cost_rule::StepRule;
 use journal_rec::MAX_JOURNAL;
 use lab_core::{Controller, CoreFault, OpenFault};
-use plant::{Drill, DrillFault, Plant, Side};
-use plant_tables::Tables;
+use plant::{Drill, DrillFault, Plant, Side, Tables};
 use script_text::{Command, Reply};
 use std::alloc::Global;
 

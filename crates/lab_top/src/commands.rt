@@ -13,7 +13,7 @@ use crate::tellers::Teller;
 use cost_rule::StepRule;
 use lab_core::Controller;
 use lab_io::{LineReader, Source};
-use plant_tables::Tables;
+use plant::Tables;
 use script_text::{Next, ScriptFault, read_command};
 use std::alloc::Global;
 

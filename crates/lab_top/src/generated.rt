@@ -13,7 +13,7 @@ use crate::tellers::Counter;
 use cost_rule::StepRule;
 use lab_gen::{Tally, TextSource, generate};
 use lab_io::{Sink, write_all};
-use plant_tables::Tables;
+use plant::Tables;
 use std::alloc::Global;
 
 /// Writes the summary of the replies that were counted.

@@ -15,7 +15,7 @@ use crate::status::Status;
 use cost_rule::{CostFn, Parts, PartsFn, Rule, RuleNumber, StepFn, StepRule};
 use lab_io::{Sink, Source};
 use phys_lab::Lab;
-use plant_tables::Tables;
+use plant::Tables;
 use rule_costs::{cost_of, parts_cost, step_cost};
 use std::alloc::Global;
 use virt_topo::{Mapping, Wiring};

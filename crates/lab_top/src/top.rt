@@ -20,7 +20,7 @@ use crate::status::Status;
 use journal_rec::MAX_JOURNAL;
 use lab_io::{Sink, Source};
 use lab_words::{PlaceFault, read_words};
-use plant_tables::Tables;
+use plant::Tables;
 use std::alloc::Global;
 
 /// Obeys the script of the source, and writes a reply to each of its commands before it reads the next. With `--gen N` it obeys the

@@ -7,10 +7,9 @@
 use lab_base::TextFault;
 use lab_io::{StdSink, StdSource};
 use lab_top::{Place, PlaceFault, Status, labctl, place_of};
-use plant::Side;
+use plant::{Side, Tables};
 use plant_file::FileLab;
 use plant_mem::MemLab;
-use plant_tables::Tables;
 use std::process::ExitCode;
 use std::{env, io};
 

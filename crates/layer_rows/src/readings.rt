@@ -1,9 +1,8 @@
 //! Readings of what devices hold.
 use crate::answers::{boot_word, letters};
 use lab_base::VlanId;
-use plant::NodeRow;
+use plant::{NodeRow, PipeRow, ReadFailed, Tables};
 use plant_mem::MemLab;
-use plant_tables::{PipeRow, ReadFailed, Tables};
 use row_words::{Untold, Words};
 use std::alloc::AllocError;
 use std::fmt::Write;

@@ -7,3 +7,4 @@ pub mod Seen
 pub mod Told
 pub mod Worlds
 pub mod Sides
+pub mod Readings

@@ -15,10 +15,10 @@ use Rattle.lab_base.specs.Names.{is_name}
 use Rattle.lab_base.proofs.Members.{all_has, found_has, Has-slice_get}
 use Rattle.plant.specs.Worlds as worlds
 use Rattle.line_text.specs.Rates.{are_held}
-use Rattle.plant_tables.specs.Readings.{HasPipe, IsListOf, IsNth, PipesFit, TellsPipe, pipe_of}
-use Rattle.plant_tables.specs.declared.pipe_row.PipeRow.{PipeRow}
-use Rattle.plant_tables.proofs.Fronts.{nth_of}
-use Rattle.plant_tables.proofs.Orders.{numbers}
+use Rattle.plant.specs.Readings.{HasPipe, IsListOf, IsNth, PipesFit, TellsPipe, pipe_of}
+use Rattle.plant.specs.declared.pipe_row.PipeRow.{PipeRow}
+use Rattle.plant.proofs.Fronts.{nth_of}
+use Rattle.plant.proofs.Orders.{numbers}
 use Rattle.plant_file.specs.declared.entry.Entry.{Entry}
 use Rattle.plant_file.specs.declared.entry.Entry.TheVariants.{Row, Bare, Node, Pipe}
 use Rattle.plant_file.specs.Entries.{is_pipe}

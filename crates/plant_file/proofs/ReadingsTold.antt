@@ -4,8 +4,8 @@ use Rattle.std.specs.Prelude.{IfOk, OnOk}
 use Rattle.std.proofs.lemmas.List.{append-nil}
 use Rattle.lab_base.specs.declared.memory.Memory.{Memory}
 use Rattle.plant.specs.Events.{Event}
-use Rattle.plant_tables.specs.Readings.{unread}
-use Rattle.plant_tables.specs.declared.pipe_row.ReadFailed.{ReadFailed}
+use Rattle.plant.specs.Readings.{unread}
+use Rattle.plant.specs.declared.pipe_row.ReadFailed.{ReadFailed}
 use Rattle.plant_file.specs.Folders.{Held, with_steps}
 
 pub steps_none : (held : Option Held) → held ≡ with_steps held []

@@ -14,10 +14,10 @@ use Rattle.lab_base.specs.declared.ids.VlanId.{VlanId}
 use Rattle.lab_base.specs.Lists.{Has}
 use Rattle.lab_base.specs.Names.{is_name}
 use Rattle.lab_base.proofs.Members.{any_has, any_from, all_has}
-use Rattle.plant_tables.specs.Readings.{IsBefore, IsEntry, IsListOf, IsNth, RowsFit, TellsRow}
-use Rattle.plant_tables.specs.Readings as readings
-use Rattle.plant_tables.proofs.Fronts.{nth_of}
-use Rattle.plant_tables.proofs.Orders.{entries}
+use Rattle.plant.specs.Readings.{IsBefore, IsEntry, IsListOf, IsNth, RowsFit, TellsRow}
+use Rattle.plant.specs.Readings as readings
+use Rattle.plant.proofs.Fronts.{nth_of}
+use Rattle.plant.proofs.Orders.{entries}
 use Rattle.plant_file.specs.declared.entry.Entry.{Entry}
 use Rattle.plant_file.specs.declared.entry.Entry.TheVariants.{Row, Bare, Node, Pipe}
 use Rattle.plant_file.specs.Entries.{is_row}

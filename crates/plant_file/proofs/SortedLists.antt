@@ -11,7 +11,7 @@ use Rattle.std.proofs.lemmas.List.Kept.{Contains-dedup, Contains-from_dedup, IsS
 use Rattle.std.proofs.lemmas.List.Sorted.{Contains-permutation, IsPermutation-sym}
 use Rattle.lab_base.specs.Lists.{Has, Apart}
 use Rattle.lab_base.proofs.Members.{Has-place, Has-get_or}
-use Rattle.plant_tables.specs.Readings.{IsListOf}
+use Rattle.plant.specs.Readings.{IsListOf}
 
 has : {X : Type 0} (xs : List X) (x : X) → Contains xs x → Has xs x
 has xs x (k, lt, e) = subst (λ v. Has xs v) e (Has-get_or xs k x lt)

@@ -20,8 +20,8 @@ use Rattle.plant.specs.declared.device.Fault.TheVariants.{Failed, Stopped}
 use Rattle.plant.specs.declared.moment.Faults.{Faults}
 use Rattle.plant.specs.declared.step.Side.{Side}
 use Rattle.plant.specs.declared.step.Side.TheVariants.{A, B}
-use Rattle.plant_tables.specs.Readings.{unread}
-use Rattle.plant_tables.specs.declared.pipe_row.ReadFailed.{ReadFailed}
+use Rattle.plant.specs.Readings.{unread}
+use Rattle.plant.specs.declared.pipe_row.ReadFailed.{ReadFailed}
 use Rattle.plant_file.specs.declared.entry.Entry.{Entry}
 use Rattle.plant_file.specs.Folders.{Held, past_of, more, with_steps, with_mark, made_sure, IsDurable}
 use Rattle.plant_file.specs.Lines.{tables_of_text}

@@ -5,9 +5,9 @@ use Rattle.lab_base.specs.declared.ids.VlanId.{VlanId}
 use Rattle.plant.specs.Worlds.{World}
 use Rattle.plant.specs.Worlds as worlds
 use Rattle.plant.specs.declared.device.NodeRow as declared
-use Rattle.plant_tables.specs.Readings.{HasPipe, IsBefore, IsListOf, IsNth, PipesFit, RowsFit, TellsNode, TellsPipe, TellsRow, pipe_of}
-use Rattle.plant_tables.specs.Readings as readings
-use Rattle.plant_tables.specs.declared.pipe_row.PipeRow.{PipeRow}
+use Rattle.plant.specs.Readings.{HasPipe, IsBefore, IsListOf, IsNth, PipesFit, RowsFit, TellsNode, TellsPipe, TellsRow, pipe_of}
+use Rattle.plant.specs.Readings as readings
+use Rattle.plant.specs.declared.pipe_row.PipeRow.{PipeRow}
 use Rattle.plant_file.specs.Standing.{IsKnown}
 
 module _ (all known : World) (is : IsKnown all known) where

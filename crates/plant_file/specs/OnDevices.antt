@@ -1,7 +1,7 @@
 -- Entries of one switch, and of one node.
 use Rattle.std.specs.Prelude.{ℕ, List, Option, Some, None, if◌then◌else◌}
 use Rattle.std.specs.Str.{bytes_eq}
-use Rattle.plant_tables.specs.declared.pipe_row.PipeRow.{PipeRow}
+use Rattle.plant.specs.declared.pipe_row.PipeRow.{PipeRow}
 use Rattle.plant_file.specs.declared.entry.Entry.{Entry}
 use Rattle.plant_file.specs.declared.entry.Entry.TheVariants.{Row, Pipe}
 

@@ -2,10 +2,9 @@
 ghost use Rattle.std.specs.Prelude.{◌≡◌};
 ghost use Rattle.plant.specs.Calls.{DeviceCause};
 ghost use Rattle.plant.specs.DiskCalls.{DiskCause};
-ghost use Rattle.plant_tables.specs.Readings.{ReadCause};
+ghost use Rattle.plant.specs.Readings.{ReadCause};
 
-use plant::{Answer, Fault, Faults};
-use plant_tables::ReadFailed;
+use plant::{Answer, Fault, Faults, ReadFailed};
 
 /// The answer of a call of the disk: each failure is counted.
 pub(crate) fn of_disk<T: Drop>(faults: &mut Faults, found: Result<T, Fault>) -> Result<T, Fault>

@@ -3,8 +3,7 @@ use crate::folder::Folder;
 use crate::folder_lab::FolderLab;
 use crate::readings::{read_node, read_pipe, read_row};
 use lab_base::{Name, VlanId};
-use plant::NodeRow;
-use plant_tables::{PipeRow, ReadFailed, Tables};
+use plant::{NodeRow, PipeRow, ReadFailed, Tables};
 
 /// A reading answers by the text of the tables, as a command does. An error is a fault of the devices.
 impl<F: Folder + Drop> Tables for FolderLab<F> {

@@ -3,7 +3,7 @@ ghost use Rattle.std.specs.Prelude.{◌≡◌, Ok, IfOk, OnOk, None};
 ghost use Rattle.std.specs.Option.{ForSome};
 ghost use Rattle.std.specs.Result.{ForOk};
 ghost use Rattle.plant.specs.Worlds.{world_of};
-ghost use Rattle.plant_tables.specs.Readings.{unread, TellsRow, TellsNode, TellsPipe, RowsFit, PipesFit};
+ghost use Rattle.plant.specs.Readings.{unread, TellsRow, TellsNode, TellsPipe, RowsFit, PipesFit};
 ghost use Rattle.plant_file.specs.Folders.{with_steps};
 ghost use Rattle.plant_file.specs.Standing.{AreOf, Keeps};
 
@@ -12,8 +12,7 @@ use crate::sending::take_tables;
 use crate::tables::Tables;
 use crate::tells::{node_of, pipe_of, row_of};
 use lab_base::{Memory, Name, VlanId};
-use plant::NodeRow;
-use plant_tables::{PipeRow, ReadFailed};
+use plant::{NodeRow, PipeRow, ReadFailed};
 use std::alloc::Global;
 
 /// The tables, for a reading of a device. A reading that has none is noted as failed.

@@ -1,7 +1,7 @@
 // The answers of the tables on devices, row by row and pipe by pipe.
 ghost use Rattle.std.specs.Prelude.{◌≡◌, ◌≤◌, ◌<◌, ◌++◌, [], IfOk, OnOk, length, option_map, slice_get};
 ghost use Rattle.std.specs.List.{cons_option, filter_map, find};
-ghost use Rattle.plant_tables.specs.Readings.{entry_of, IsBefore, IsEntry, IsListOf, HasPipe, TellsRow, TellsNode, TellsPipe, RowsFit, PipesFit};
+ghost use Rattle.plant.specs.Readings.{entry_of, IsBefore, IsEntry, IsListOf, HasPipe, TellsRow, TellsNode, TellsPipe, RowsFit, PipesFit};
 ghost use Rattle.plant_file.specs.Entries.{is_pipe};
 ghost use Rattle.plant_file.specs.Holding.{world_in, node_in};
 ghost use Rattle.plant_file.specs.Kept.{entries_of};
@@ -11,8 +11,7 @@ use crate::entry::{Entry, Key};
 use crate::lines_kept::Line;
 use crate::tables::Tables;
 use lab_base::{Memory, Name, VlanId};
-use plant::NodeRow;
-use plant_tables::{MAX_PIPES, PipeRow};
+use plant::{MAX_PIPES, NodeRow, PipeRow};
 use std::alloc::Global;
 
 /// Adds what was found, if anything was.

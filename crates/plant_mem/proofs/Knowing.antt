@@ -19,7 +19,7 @@ use Rattle.plant.specs.Events.{Event, Did}
 use Rattle.plant_mem.specs.Knows.{Knows}
 use Rattle.plant_mem.specs.Pipes.{pipe_in, pipe_after}
 use Rattle.plant_mem.specs.declared.pipes.PipeState.{PipeState}
-use Rattle.plant_tables.specs.Readings.{pipe_of}
+use Rattle.plant.specs.Readings.{pipe_of}
 use Rattle.plant.specs.Worlds.{World, NodeRow, PipeRow, wiped, pipes_with, node_after, node_polled, told, world_of, world_after}
 
 -- where the row has a boot state, it is that one

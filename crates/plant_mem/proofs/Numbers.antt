@@ -5,7 +5,7 @@ use Rattle.std.proofs.lemmas.Bool.{false≢true}
 use Rattle.lab_base.specs.Lists.{Has, Apart}
 use Rattle.lab_base.proofs.Members.{Has-append, Has-left, Has-right}
 use Rattle.plant.specs.Worlds.{PipeRow, NodeRow}
-use Rattle.plant_tables.specs.Readings.{IsListOf, IsNth, HasPipe}
+use Rattle.plant.specs.Readings.{IsListOf, IsNth, HasPipe}
 use Rattle.plant_mem.specs.Knows.{pipe_count, pipes_below}
 use Rattle.plant_mem.specs.Readings.{number_if, numbers_below}
 

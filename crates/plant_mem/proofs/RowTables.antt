@@ -16,10 +16,10 @@ use Rattle.plant.specs.declared.device.DeviceOp.{DeviceOp}
 use Rattle.plant.specs.declared.device.DeviceOp.TheVariants.{Join, Leave}
 use Rattle.plant_mem.specs.declared.rows.Row.{Row}
 use Rattle.plant_mem.specs.RowTables.{AreRows, are_ordered, entries_on, entry_of, index, is_earlier, is_fit, is_ordered, is_same, joined, left, place, placed, row_of}
-use Rattle.plant_tables.specs.Readings.{IsBefore, IsEntry, IsListOf, IsNth, TellsRow}
-use Rattle.plant_tables.specs.Readings as readings
-use Rattle.plant_tables.proofs.Fronts.{nth_of}
-use Rattle.plant_tables.proofs.Orders.{entries}
+use Rattle.plant.specs.Readings.{IsBefore, IsEntry, IsListOf, IsNth, TellsRow}
+use Rattle.plant.specs.Readings as readings
+use Rattle.plant.proofs.Fronts.{nth_of}
+use Rattle.plant.proofs.Orders.{entries}
 
 -- a row comes before another one of its switch
 abbrev IsEarlier : Row → Row → Type 0

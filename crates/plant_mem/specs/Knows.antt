@@ -7,7 +7,7 @@ use Rattle.plant_mem.specs.Boots.{state_in, os_in}
 use Rattle.plant_mem.specs.Pipes.{pipe_in}
 use Rattle.plant.specs.Events.{Event}
 use Rattle.plant.specs.Worlds.{PipeRow, world_of}
-use Rattle.plant_tables.specs.Readings.{pipe_of}
+use Rattle.plant.specs.Readings.{pipe_of}
 
 -- where the trace tells the boot state of a node, the table has that one; the tables have the OS and the pipes of each node
 pub record Knows (trace : List Event) (entries : List NodeState) (pipes : List PipeState) : Type 0 where

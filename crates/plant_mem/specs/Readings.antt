@@ -5,7 +5,7 @@ use Rattle.std.specs.Str.{bytes_eq}
 use Rattle.std.proofs.Common.{zero, suc}
 use Rattle.plant.specs.Events.{Unread}
 use Rattle.plant.specs.Worlds.{PipeRow}
-use Rattle.plant_tables.specs.declared.pipe_row.ReadFailed.{ReadFailed}
+use Rattle.plant.specs.declared.pipe_row.ReadFailed.{ReadFailed}
 use Rattle.plant_mem.specs.declared.plans.Plan.{Plan}
 use Rattle.plant_mem.specs.Held.{Held, with_events, one_more}
 use Rattle.plant_mem.specs.Plans.{is_read}

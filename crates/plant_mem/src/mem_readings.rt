@@ -2,7 +2,7 @@
 ghost use Rattle.std.specs.Prelude.{◌≡◌, Some};
 ghost use Rattle.plant.specs.Told.{with_steps};
 ghost use Rattle.plant.specs.Worlds.{world_of};
-ghost use Rattle.plant_tables.specs.Readings.{unread, ReadCause, TellsRow, TellsNode, TellsPipe, RowsFit, PipesFit, pipe_of};
+ghost use Rattle.plant.specs.Readings.{unread, ReadCause, TellsRow, TellsNode, TellsPipe, RowsFit, PipesFit, pipe_of};
 ghost use Rattle.plant_mem.specs.Held.{held_of};
 ghost use Rattle.plant_mem.specs.MemLab.{told_of, faults_of};
 ghost use Rattle.plant_mem.specs.Readings.{after_reading, fails_reading, read_answer};
@@ -12,8 +12,7 @@ use crate::mem::MemLab;
 use crate::plans::{count_readings, fails_reading};
 use crate::row_table::nth_on;
 use lab_base::{Name, VlanId};
-use plant::NodeRow;
-use plant_tables::{PipeRow, ReadFailed};
+use plant::{NodeRow, PipeRow, ReadFailed};
 
 impl MemLab {
     /// Counts a reading, and answers it, where it doesn't fail.

@@ -1,14 +1,13 @@
 use crate::mem::MemLab;
 use lab_base::{Name, VlanId};
-use plant::NodeRow;
-use plant_tables::{PipeRow, ReadFailed, Tables};
+use plant::{NodeRow, PipeRow, ReadFailed, Tables};
 
 /// A reading fails exactly where a drill says so, while there is room for a step.
 impl Tables for MemLab {
     ghost use Rattle.std.specs.Prelude.{◌≡◌, IfOk, OnOk, Some, is_err};
     ghost use Rattle.plant.specs.Told.{with_steps};
     ghost use Rattle.plant.specs.Worlds.{world_of};
-    ghost use Rattle.plant_tables.specs.Readings.{unread, ReadCause, TellsRow, TellsNode, TellsPipe, RowsFit, PipesFit};
+    ghost use Rattle.plant.specs.Readings.{unread, ReadCause, TellsRow, TellsNode, TellsPipe, RowsFit, PipesFit};
     ghost use Rattle.plant_mem.specs.Held.{held_of};
     ghost use Rattle.plant_mem.specs.MemLab.{told_of, faults_of, stopped_of};
     ghost use Rattle.plant_mem.specs.Readings.{after_reading, fails_reading};

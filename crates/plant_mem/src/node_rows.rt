@@ -3,14 +3,13 @@ ghost use Rattle.lab_base.specs.declared.boot.Boot.{Boot};
 ghost use Rattle.plant_mem.specs.Knows.{pipes_below, pipe_count};
 ghost use Rattle.plant_mem.specs.MemLab.{told_of, state_of};
 ghost use Rattle.plant.specs.Worlds.{world_of};
-ghost use Rattle.plant_tables.specs.Readings.{pipe_of};
+ghost use Rattle.plant.specs.Readings.{pipe_of};
 
 use crate::mem::MemLab;
 use crate::nodes::{os_in, state_in};
 use crate::pipes::pipe_in;
 use lab_base::Name;
-use plant::NodeRow;
-use plant_tables::{MAX_PIPES, PipeRow};
+use plant::{MAX_PIPES, NodeRow, PipeRow};
 
 impl MemLab {
     fn os_of(&self, node: &Name) -> Option<Name>

@@ -1,6 +1,6 @@
 // The tables of nodes and of their pipes.
 ghost use Rattle.std.specs.Prelude.{◌≡◌, ◌<◌, ◌≤◌, ◌+◌, [], List, ℕ, IfOk, OnOk, option_map, if◌then◌else◌};
-ghost use Rattle.plant_tables.specs.Readings.{pipe_of};
+ghost use Rattle.plant.specs.Readings.{pipe_of};
 ghost use Rattle.plant_mem.specs.Boots.{state_in, state_after, state_sent, os_in, os_after, answer_of, NodesRise};
 ghost use Rattle.plant_mem.specs.Pipes.{pipe_in, pipe_after, EndsAt, PipesRise};
 

@@ -3,12 +3,11 @@ ghost use Rattle.std.specs.Prelude.{◌≡◌, ◌<◌, ◌≤◌, ◌+◌, ◌&
 ghost use Rattle.std.specs.List.{find};
 ghost use Rattle.std.specs.List.Sorted.{IsBinarySearchResult, IsSearchInRange};
 ghost use Rattle.std.specs.Str.{bytes_eq};
-ghost use Rattle.plant_tables.specs.Readings.{pipe_of};
+ghost use Rattle.plant.specs.Readings.{pipe_of};
 ghost use Rattle.plant_mem.specs.Pipes.{pipe_after, pipe_cmp, pipe_in, EndsAt, PipesRise};
 
 use lab_base::{Name, Rates};
-use plant::DeviceOp;
-use plant_tables::{MAX_PIPES, PipeRow};
+use plant::{DeviceOp, MAX_PIPES, PipeRow};
 
 /// A pipe of a node, where it is set.
 #[derive(Clone, Copy)]

@@ -15,7 +15,7 @@ use cost_rule::{CostFn, Parts, PartsFn, Rule, RuleNumber, StepFn, StepRule};
 use lab_core::Controller;
 use lab_io::{LineReader, MemSource};
 use phys_lab::Lab;
-use plant_tables::Tables;
+use plant::Tables;
 use rule_costs::{cost_of, parts_cost, step_cost};
 use script_text::{Command, Next, Reply, read_command, reply_text};
 use std::alloc::Global;

@@ -1,5 +1,4 @@
 pub mod Heads
-pub mod Pieces
 pub mod Commands
 pub mod Taking
 pub mod Blocks

@@ -9,7 +9,6 @@ mod command;
 mod drill_heads;
 mod heads;
 mod next;
-mod pieces;
 mod played;
 mod replies;
 mod reply;

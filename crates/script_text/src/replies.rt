@@ -4,24 +4,23 @@ ghost use Rattle.lab_base.specs.declared.what.What.TheVariants as whats;
 ghost use Rattle.script_text.specs.Replies.{named_line, fault_line, two_line, lab_line, exp_line, what_words, trouble_line, failed_line, infeasible_line, tag_line, placed_lines, shown_lines, solved_lines, played_lines, text_of};
 ghost use Rattle.script_text.specs.Replies.{kind_word, wait_line, row_line, audit_line, audit_lines};
 
-use crate::pieces::Piece::{Bytes, Number};
-use crate::pieces::{add_all, joined};
 use crate::words::{boot_word, end_word, rule_word};
 use crate::{AuditLine, FailedEnd, PhaseWord, Placed, Reply, StatusLine, TagLine};
-use lab_base::{Boot, Memory, Name, Text, TextFault, VlanId, What};
+use lab_base::Piece::{Bytes, Number};
+use lab_base::{Boot, Memory, Name, Text, TextFault, VlanId, What, push_pieces, text_of_pieces};
 use std::alloc::Global;
 use virt_topo::Broken;
 
 fn named<'a>(alloc: Global, words: &'a [u8], name: &'a Name) -> Result<Text, Memory>
     ensures { IfOk result (λ text. text ≡ named_line words.now name.now) }
 {
-    joined(alloc, &[Bytes(words), Bytes(name.bytes()), Bytes(b"\n")])
+    text_of_pieces(alloc, &[Bytes(words), Bytes(name.bytes()), Bytes(b"\n")])
 }
 
 fn lab(alloc: Global, switches: u16, nodes: u16, trunks: u16) -> Result<Text, Memory>
     ensures { IfOk result (λ text. text ≡ lab_line switches nodes trunks) }
 {
-    joined(
+    text_of_pieces(
         alloc,
         &[
             Bytes(b"lab "),
@@ -38,7 +37,7 @@ fn lab(alloc: Global, switches: u16, nodes: u16, trunks: u16) -> Result<Text, Me
 fn created(alloc: Global, exp: &Name, nodes: u16, segments: u16) -> Result<Text, Memory>
     ensures { IfOk result (λ text. text ≡ two_line (codes "created " ++ exp.now ++ 32 ∷ []) nodes segments) }
 {
-    joined(
+    text_of_pieces(
         alloc,
         &[
             Bytes(b"created "),
@@ -55,7 +54,7 @@ fn created(alloc: Global, exp: &Name, nodes: u16, segments: u16) -> Result<Text,
 fn add_tag(text: &mut Text, tag: &TagLine) -> Result<(), Memory>
     ensures { OnOk result (text.new ≡ text.old ++ tag_line tag.now) }
 {
-    add_all(
+    push_pieces(
         text,
         &[
             Bytes(b"tag "),
@@ -90,7 +89,7 @@ fn add_placed(text: &mut Text, placed: &Option<Placed>) -> Result<(), Memory>
 fn add_end(text: &mut Text, exp: &Name) -> Result<(), Memory>
     ensures { OnOk result (text.new ≡ text.old ++ codes "end " ++ exp.now ++ 10 ∷ []) }
 {
-    add_all(text, &[Bytes(b"end "), Bytes(exp.bytes()), Bytes(b"\n")])
+    push_pieces(text, &[Bytes(b"end "), Bytes(exp.bytes()), Bytes(b"\n")])
 }
 
 fn shown<'a>(
@@ -102,7 +101,7 @@ fn shown<'a>(
 ) -> Result<Text, Memory>
     ensures { IfOk result (λ text. text ≡ shown_lines exp.now phase top.now placed.now) }
 {
-    let mut text = joined(
+    let mut text = text_of_pieces(
         alloc,
         &[
             Bytes(b"show "),
@@ -128,7 +127,7 @@ fn solved<'a>(
 ) -> Result<Text, Memory>
     ensures { IfOk result (λ text. text ≡ solved_lines words.now exp.now cost solution.now) }
 {
-    let mut text = joined(
+    let mut text = text_of_pieces(
         alloc,
         &[
             Bytes(words),
@@ -146,7 +145,7 @@ fn solved<'a>(
 fn add_boots(text: &mut Text, node: &Name, from: Boot, to: Boot) -> Result<(), Memory>
     ensures { OnOk result (text.new ≡ text.old ++ what_words (whats.Unlawful node.now from to)) }
 {
-    add_all(
+    push_pieces(
         text,
         &[
             Bytes(b"boot "),
@@ -162,7 +161,7 @@ fn add_boots(text: &mut Text, node: &Name, from: Boot, to: Boot) -> Result<(), M
 fn add_named(text: &mut Text, words: &[u8], name: &Name) -> Result<(), Memory>
     ensures { OnOk result (text.new ≡ text.old ++ words.now ++ name.now) }
 {
-    add_all(text, &[Bytes(words), Bytes(name.bytes())])
+    push_pieces(text, &[Bytes(words), Bytes(name.bytes())])
 }
 
 fn add_what(text: &mut Text, what: &What) -> Result<(), Memory>
@@ -179,7 +178,7 @@ fn add_what(text: &mut Text, what: &What) -> Result<(), Memory>
 fn failed(alloc: Global, exp: &Name, end: FailedEnd, what: &What) -> Result<Text, Memory>
     ensures { IfOk result (λ text. text ≡ failed_line exp.now end what.now) }
 {
-    let mut text = joined(
+    let mut text = text_of_pieces(
         alloc,
         &[
             Bytes(b"failed "),
@@ -197,7 +196,7 @@ fn failed(alloc: Global, exp: &Name, end: FailedEnd, what: &What) -> Result<Text
 fn trouble(alloc: Global, exp: &Name, what: &What) -> Result<Text, Memory>
     ensures { IfOk result (λ text. text ≡ trouble_line exp.now what.now) }
 {
-    let mut text = joined(
+    let mut text = text_of_pieces(
         alloc,
         &[Bytes(b"trouble "), Bytes(exp.bytes()), Bytes(b" ")],
     )?;
@@ -209,7 +208,7 @@ fn trouble(alloc: Global, exp: &Name, what: &What) -> Result<Text, Memory>
 fn recovered(alloc: Global, done: u32, stuck: u32) -> Result<Text, Memory>
     ensures { IfOk result (λ text. text ≡ two_line (codes "recovered ") done stuck) }
 {
-    joined(
+    text_of_pieces(
         alloc,
         &[
             Bytes(b"recovered "),
@@ -229,7 +228,7 @@ fn infeasible<'a>(
 ) -> Result<Text, Memory>
     ensures { IfOk result (λ text. text ≡ infeasible_line exp.now rule subject.now) }
 {
-    joined(
+    text_of_pieces(
         alloc,
         &[
             Bytes(b"infeasible "),
@@ -246,7 +245,7 @@ fn infeasible<'a>(
 fn full_journal(alloc: Global, length: u64) -> Result<Text, Memory>
     ensures { IfOk result (λ text. text ≡ codes "full journal " ++ decimal length ++ 10 ∷ []) }
 {
-    joined(
+    text_of_pieces(
         alloc,
         &[Bytes(b"full journal "), Number(length), Bytes(b"\n")],
     )
@@ -255,7 +254,7 @@ fn full_journal(alloc: Global, length: u64) -> Result<Text, Memory>
 fn bad(alloc: Global, exp: &Name, fault: TextFault) -> Result<Text, Memory>
     ensures { IfOk result (λ text. text ≡ fault_line (codes "bad " ++ exp.now ++ 32 ∷ []) fault) }
 {
-    joined(
+    text_of_pieces(
         alloc,
         &[
             Bytes(b"bad "),
@@ -273,7 +272,7 @@ fn bad(alloc: Global, exp: &Name, fault: TextFault) -> Result<Text, Memory>
 fn faulty(alloc: Global, words: &[u8], fault: TextFault) -> Result<Text, Memory>
     ensures { IfOk result (λ text. text ≡ fault_line words.now fault) }
 {
-    joined(
+    text_of_pieces(
         alloc,
         &[
             Bytes(words),
@@ -288,7 +287,7 @@ fn faulty(alloc: Global, words: &[u8], fault: TextFault) -> Result<Text, Memory>
 fn add_line(text: &mut Text, line: &StatusLine) -> Result<(), Memory>
     ensures { OnOk result (text.new ≡ text.old ++ exp_line line.now) }
 {
-    add_all(
+    push_pieces(
         text,
         &[
             Bytes(b"exp "),
@@ -311,7 +310,7 @@ fn listed(alloc: Global, experiments: &[StatusLine], nodes: u16, vlans: u16) -> 
     for experiment in experiments {
         add_line(&mut text, experiment)?;
     }
-    add_all(
+    push_pieces(
         &mut text,
         &[
             Bytes(b"free "),
@@ -327,7 +326,7 @@ fn listed(alloc: Global, experiments: &[StatusLine], nodes: u16, vlans: u16) -> 
 fn played<'a>(alloc: Global, exp: &'a Name, played: u64, last: &'a Text) -> Result<Text, Memory>
     ensures { IfOk result (λ text. text ≡ played_lines exp.now played last.now) }
 {
-    joined(
+    text_of_pieces(
         alloc,
         &[
             Bytes(b"played "),
@@ -344,7 +343,7 @@ fn add_kinds(text: &mut Text, kinds: &[Name]) -> Result<(), Memory>
     ensures { OnOk result (text.new ≡ text.old ++ flat_map kind_word kinds.now) }
 {
     for kind in kinds {
-        add_all(text, &[Bytes(b" "), Bytes(kind.bytes())])?;
+        push_pieces(text, &[Bytes(b" "), Bytes(kind.bytes())])?;
     }
     Ok(())
 }
@@ -359,7 +358,7 @@ fn wait(
 ) -> Result<Text, Memory>
     ensures { IfOk result (λ text. text ≡ wait_line exp.now at need have kinds.now) }
 {
-    let mut text = joined(
+    let mut text = text_of_pieces(
         alloc,
         &[
             Bytes(b"wait "),
@@ -386,7 +385,7 @@ fn add_row<'a>(
 ) -> Result<(), Memory>
     ensures { OnOk result (text.new ≡ text.old ++ row_line words.now switch.now port vlan.0) }
 {
-    add_all(
+    push_pieces(
         text,
         &[
             Bytes(words),
@@ -409,7 +408,7 @@ fn add_audited(text: &mut Text, line: &AuditLine) -> Result<(), Memory>
             add_row(text, b"strange ", switch, *port, *vlan)
         }
         AuditLine::Node { node } => {
-            add_all(text, &[Bytes(b"node "), Bytes(node.bytes()), Bytes(b"\n")])
+            push_pieces(text, &[Bytes(b"node "), Bytes(node.bytes()), Bytes(b"\n")])
         }
     }
 }
@@ -417,7 +416,7 @@ fn add_audited(text: &mut Text, line: &AuditLine) -> Result<(), Memory>
 fn audit(alloc: Global, lines: &[AuditLine]) -> Result<Text, Memory>
     ensures { IfOk result (λ text. text ≡ audit_lines lines.now) }
 {
-    let mut text = joined(
+    let mut text = text_of_pieces(
         alloc,
         &[Bytes(b"audit "), Number(lines.len() as u64), Bytes(b"\n")],
     )?;

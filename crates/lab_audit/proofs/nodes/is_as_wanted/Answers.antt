@@ -2,8 +2,8 @@ use Rattle.std.proofs.Common.{◌≡◌, true, List, subst}
 use Rattle.std.specs.Prelude.{◌↔◌}
 use Rattle.plant.specs.Told.{Told}
 use Rattle.plant.specs.Worlds.{world_of}
-use Rattle.plant_tables.specs.Readings.{TellsNode}
-use Rattle.plant_tables.specs.declared.pipe_row.PipeRow.{PipeRow}
+use Rattle.plant.specs.Readings.{TellsNode}
+use Rattle.plant.specs.declared.pipe_row.PipeRow.{PipeRow}
 use Rattle.lab_audit.specs.Nodes.{agree, state_if}
 use Rattle.lab_audit.specs.Reads.{ArePipes}
 use Rattle.lab_audit.proofs.Agreeing.{wanted_by_reading}

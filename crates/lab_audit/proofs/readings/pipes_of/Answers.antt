@@ -3,9 +3,9 @@ use Rattle.lab_base.specs.Lists.{Has}
 use Rattle.lab_base.proofs.Tests.{some_weaker}
 use Rattle.plant.specs.Told.{Told}
 use Rattle.plant.specs.Worlds.{world_of}
-use Rattle.plant_tables.specs.Readings.{HasPipe, PipesFit, TellsPipe, pipe_of}
-use Rattle.plant_tables.specs.declared.pipe_row.PipeRow.{PipeRow}
-use Rattle.plant_tables.proofs.Fronts.{IsFront}
+use Rattle.plant.specs.Readings.{HasPipe, PipesFit, TellsPipe, pipe_of}
+use Rattle.plant.specs.declared.pipe_row.PipeRow.{PipeRow}
+use Rattle.plant.proofs.Fronts.{IsFront}
 use Rattle.lab_audit.proofs.Reading.{both_told, each_more, number_of, pipe_read, pipes_end, pipes_full, read_on, three_told, told_before}
 use Rattle.lab_audit.proofs.readings.pipes_of.Goals as goal
 

@@ -2,9 +2,9 @@ use Rattle.std.proofs.Common.{◌≡◌, ◌<◌, Some, None, map}
 use Rattle.std.specs.Prelude.{IfSome, length}
 use Rattle.lab_base.specs.Lists.{Has}
 use Rattle.plant.specs.Worlds.{world_of}
-use Rattle.plant_tables.specs.Readings.{HasPipe, PipesFit, pipe_of}
-use Rattle.plant_tables.specs.declared.pipe_row.PipeRow.{PipeRow}
-use Rattle.plant_tables.proofs.Fronts.{IsFront}
+use Rattle.plant.specs.Readings.{HasPipe, PipesFit, pipe_of}
+use Rattle.plant.specs.declared.pipe_row.PipeRow.{PipeRow}
+use Rattle.plant.proofs.Fronts.{IsFront}
 use Rattle.lab_audit.specs.Reads.{Reads}
 use Rattle.lab_audit.proofs.readings.pipes_of.Given as goal
 

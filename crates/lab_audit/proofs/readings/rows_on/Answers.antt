@@ -2,8 +2,8 @@ use Rattle.std.proofs.Common.{◌<◌, ◌+◌, ◌≤◌, ◌∷◌, ◌++◌, 
 use Rattle.lab_base.proofs.Tests.{some_weaker}
 use Rattle.plant.specs.Told.{Told}
 use Rattle.plant.specs.Worlds.{world_of}
-use Rattle.plant_tables.specs.Readings.{IsBefore, IsEntry, RowsFit, TellsRow, entry_of}
-use Rattle.plant_tables.proofs.Fronts.{IsFront}
+use Rattle.plant.specs.Readings.{IsBefore, IsEntry, RowsFit, TellsRow, entry_of}
+use Rattle.plant.proofs.Fronts.{IsFront}
 use Rattle.lab_audit.proofs.Reading.{both_told, read_on, rows_full, row_read, rows_end, told_before}
 use Rattle.lab_audit.proofs.readings.rows_on.Goals as goal
 

@@ -1,8 +1,8 @@
 use Rattle.std.proofs.Common.{◌≡◌, ◌<◌, None, map}
 use Rattle.std.specs.Prelude.{IfSome, length}
 use Rattle.plant.specs.Worlds.{world_of}
-use Rattle.plant_tables.specs.Readings.{IsBefore, IsEntry, RowsFit, entry_of}
-use Rattle.plant_tables.proofs.Fronts.{IsFront}
+use Rattle.plant.specs.Readings.{IsBefore, IsEntry, RowsFit, entry_of}
+use Rattle.plant.proofs.Fronts.{IsFront}
 use Rattle.lab_audit.specs.Reads.{Reads}
 use Rattle.lab_audit.proofs.readings.rows_on.Given as goal
 

@@ -5,7 +5,7 @@ use Rattle.lab_base.specs.Lists.{Has}
 use Rattle.lab_base.proofs.Tests.{some_weaker}
 use Rattle.plant.specs.Told.{Told}
 use Rattle.plant.specs.Worlds.{world_of}
-use Rattle.plant_tables.specs.Readings.{IsEntry, entry_of}
+use Rattle.plant.specs.Readings.{IsEntry, entry_of}
 use Rattle.lab_audit.proofs.switch_lines.lines_on.Goals as goal
 
 pub returns-clause-lines : goal.returns-clause-lines

@@ -1,4 +1,4 @@
-use Rattle.plant_tables.specs.Readings.{unread}
+use Rattle.plant.specs.Readings.{unread}
 use Rattle.plant_file.proofs.Telling.{keeps_unread, fits_kept, are_kept, sure_kept}
 use Rattle.plant_file.proofs.lab_tables.FolderLabTables.row.Goals as goal
 

@@ -1,7 +1,7 @@
 use Rattle.std.proofs.Common.{◌≡◌, ◌<◌, ◌≤◌, ℕ, Some, length, ap, sym, ◌∙◌, subst, arith}
 use Rattle.std.specs.Prelude.{is_some}
 use Rattle.plant.specs.Worlds.{world_of}
-use Rattle.plant_tables.specs.Readings.{HasPipe, IsNth}
+use Rattle.plant.specs.Readings.{HasPipe, IsNth}
 use Rattle.plant_mem.specs.MemLab.{told_of}
 use Rattle.plant_mem.specs.Readings.{numbers_below}
 use Rattle.plant_mem.proofs.Numbers.{below_none, below_some, is_nth_number, no_nth_number, numbers_fit}

@@ -1,5 +1,5 @@
 use Rattle.plant.specs.Worlds.{world_of}
-use Rattle.plant_tables.specs.Readings.{TellsNode}
+use Rattle.plant.specs.Readings.{TellsNode}
 use Rattle.plant_mem.specs.Held.{held_of}
 use Rattle.plant_mem.specs.MemLab.{told_of}
 use Rattle.plant_mem.specs.Readings.{fails_reading}

@@ -1,8 +1,8 @@
--- The pieces of a line.
+-- The pieces of a text.
 use Rattle.std.specs.Prelude.{ℕ, List}
 use Rattle.std.specs.Fmt.{decimal}
-use Rattle.script_text.specs.declared.pieces.Piece.{Piece}
-use Rattle.script_text.specs.declared.pieces.Piece.TheVariants.{Bytes, Number}
+use Rattle.lab_base.specs.declared.pieces.Piece.{Piece}
+use Rattle.lab_base.specs.declared.pieces.Piece.TheVariants.{Bytes, Number}
 
 -- the bytes of a piece
 abbrev pub piece_bytes : Piece → List ℕ

@@ -9,8 +9,8 @@ use Rattle.plant.specs.declared.moment.Faults.{Faults}
 use Rattle.plant.specs.Events.{Event, Unread}
 use Rattle.plant.specs.Worlds.{World, NodeRow}
 use Rattle.plant.specs.Worlds as worlds
-use Rattle.plant_tables.specs.declared.pipe_row.PipeRow.{PipeRow}
-use Rattle.plant_tables.specs.declared.pipe_row.ReadFailed.{ReadFailed}
+use Rattle.plant.specs.declared.pipe_row.PipeRow.{PipeRow}
+use Rattle.plant.specs.declared.pipe_row.ReadFailed.{ReadFailed}
 
 -- THE STEPS OF A READING: one where it failed, and else none
 abbrev pub unread : {T : Type 0} → List ℕ → Result T ReadFailed → List Event

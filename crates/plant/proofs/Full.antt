@@ -2,7 +2,7 @@
 use Rattle.std.proofs.Common.{◌≡◌, ◌⊎◌, inl, inr, ℕ, suc, ◌+◌, ◌*◌, ◌≤◌, ◌<◌, List, [], ◌∷◌, length, map, refl, ap, ◌∙◌, subst, arith}
 use Rattle.lab_base.specs.Lists.{Has, Apart}
 use Rattle.lab_base.proofs.Members.{Has-map}
-use Rattle.plant_tables.specs.Readings.{IsBefore}
+use Rattle.plant.specs.Readings.{IsBefore}
 
 -- numbers that rise from lo and stay below n are no more than that
 few : (lo n : ℕ) (xs : List ℕ) → lo ≤ n → Apart ◌<◌ xs → ((x : ℕ) → Has xs x → (lo ≤ x) × (x < n)) → lo + length xs ≤ n

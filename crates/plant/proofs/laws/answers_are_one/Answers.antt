@@ -1,8 +1,8 @@
 use Rattle.std.proofs.Common.{◌<◌}
-use Rattle.plant_tables.specs.Readings.{IsBefore, IsEntry, HasPipe}
-use Rattle.plant_tables.proofs.Fronts.{one_answer}
-use Rattle.plant_tables.proofs.Orders.{entries, numbers}
-use Rattle.plant_tables.proofs.laws.answers_are_one.Goals as goal
+use Rattle.plant.specs.Readings.{IsBefore, IsEntry, HasPipe}
+use Rattle.plant.proofs.Fronts.{one_answer}
+use Rattle.plant.proofs.Orders.{entries, numbers}
+use Rattle.plant.proofs.laws.answers_are_one.Goals as goal
 
 pub returns-clause-rows : goal.returns-clause-rows
 returns-clause-rows c = λ w switch. one_answer IsBefore entries (IsEntry w switch)

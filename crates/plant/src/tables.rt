@@ -1,11 +1,10 @@
 ghost use Rattle.std.specs.Prelude.{◌≡◌, IfOk, OnOk, IfSome};
 ghost use Rattle.plant.specs.Told.{with_steps};
 ghost use Rattle.plant.specs.Worlds.{world_of};
-ghost use Rattle.plant_tables.specs.Readings.{unread, ReadCause, TellsRow, TellsNode, TellsPipe, RowsFit, PipesFit};
+ghost use Rattle.plant.specs.Readings.{unread, ReadCause, TellsRow, TellsNode, TellsPipe, RowsFit, PipesFit};
 
-use crate::{PipeRow, ReadFailed};
+use crate::{NodeRow, PipeRow, Plant, ReadFailed};
 use lab_base::{Name, VlanId};
-use plant::{NodeRow, Plant};
 
 /// A plant whose devices tell what they hold.
 ///

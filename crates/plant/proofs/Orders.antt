@@ -1,6 +1,6 @@
 -- Orders of entries and of numbers.
 use Rattle.std.proofs.Common.{◌≡◌, ◌⊎◌, inl, inr, ◌<◌, ℕ, arith, sym}
-use Rattle.plant_tables.specs.Readings.{IsBefore}
+use Rattle.plant.specs.Readings.{IsBefore}
 
 -- of two one comes first, or they are one; nothing comes before itself, nor before what comes before it
 pub record IsOrder {X : Type 0} (before : X → X → Type 0) : Type 0 where

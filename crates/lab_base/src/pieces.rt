@@ -1,20 +1,20 @@
-//! The pieces of a line.
+//! The pieces of a text.
 
 ghost use Rattle.std.specs.Prelude.{◌≡◌, ◌++◌, IfOk, OnOk};
 ghost use Rattle.std.specs.List.{flat_map};
-ghost use Rattle.script_text.specs.Pieces.{piece_bytes};
+ghost use Rattle.lab_base.specs.Pieces.{piece_bytes};
 
-use lab_base::{Memory, Text};
+use crate::{Memory, Text};
 use std::alloc::Global;
 
-/// A piece of a line: bytes, or the decimal digits of a number.
+/// A piece of a text: bytes, or the decimal digits of a number.
 #[derive(Clone, Copy)]
-pub(crate) enum Piece<'a> {
+pub enum Piece<'a> {
     Bytes(&'a [u8]),
     Number(u64),
 }
 
-fn add(text: &mut Text, piece: &Piece<'_>) -> Result<(), Memory>
+fn push_piece(text: &mut Text, piece: &Piece<'_>) -> Result<(), Memory>
     ensures { OnOk result (text.new ≡ text.old ++ piece_bytes piece.now) }
 {
     match *piece {
@@ -24,20 +24,20 @@ fn add(text: &mut Text, piece: &Piece<'_>) -> Result<(), Memory>
 }
 
 /// Adds pieces to a text, one behind another.
-pub(crate) fn add_all(text: &mut Text, pieces: &[Piece<'_>]) -> Result<(), Memory>
+pub fn push_pieces(text: &mut Text, pieces: &[Piece<'_>]) -> Result<(), Memory>
     ensures { OnOk result (text.new ≡ text.old ++ flat_map piece_bytes pieces.now) }
 {
     for piece in pieces {
-        add(text, piece)?;
+        push_piece(text, piece)?;
     }
     Ok(())
 }
 
 /// The text of pieces, one behind another.
-pub(crate) fn joined(alloc: Global, pieces: &[Piece<'_>]) -> Result<Text, Memory>
+pub fn text_of_pieces(alloc: Global, pieces: &[Piece<'_>]) -> Result<Text, Memory>
     ensures { IfOk result (λ text. text ≡ flat_map piece_bytes pieces.now) }
 {
     let mut text = Text::new(alloc);
-    add_all(&mut text, pieces)?;
+    push_pieces(&mut text, pieces)?;
     Ok(text)
 }

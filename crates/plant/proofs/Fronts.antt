@@ -3,8 +3,8 @@ use Rattle.std.proofs.Common.{◌≡◌, inl, inr, ℕ, zero, suc, ◌≤◌, Li
 use Rattle.std.specs.Prelude.{slice_get}
 use Rattle.lab_base.specs.Lists.{Has, Apart}
 use Rattle.lab_base.proofs.Members.{Has-append, Has-left}
-use Rattle.plant_tables.specs.Readings.{IsListOf, IsNth}
-use Rattle.plant_tables.proofs.Orders.{IsOrder}
+use Rattle.plant.specs.Readings.{IsListOf, IsNth}
+use Rattle.plant.proofs.Orders.{IsOrder}
 
 -- a list of the first of all that are so: with one it has all that come before it
 pub record IsFront {X : Type 0} (before : X → X → Type 0) (so : X → Type 0) (xs : List X) : Type 0 where
