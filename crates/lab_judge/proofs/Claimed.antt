@@ -29,7 +29,7 @@ use Rattle.claims.proofs.Counting.{count_places}
 use Rattle.claims.proofs.Matching.{Match}
 use Rattle.claims.proofs.OthersLeave.{node_by, side_tags, id_by, named_apart}
 use Rattle.claims.proofs.Ranges.{rest_of_range}
-use Rattle.lab_judge.specs.Counts.{nodes_claimed, ids_claimed, nodes_free, is_taken, ids_free}
+use Rattle.lab_tasks.specs.Counts.{nodes_claimed, ids_claimed, nodes_free, is_taken, ids_free}
 
 -- a test that none passes, and what pass and don't are all
 count_none : {X : Type 0} (p : X → Bool) → ((x : X) → p x ≡ false) → (xs : List X) → count_by p xs ≡ 0

@@ -10,8 +10,12 @@ use Rattle.script_text.specs.declared.command.Command.TheVariants as commands
 use Rattle.script_text.specs.declared.reply.Reply.{Reply}
 use Rattle.script_text.specs.declared.reply.Reply.TheVariants as replies
 use Rattle.cost_rule.specs.declared.rule.RuleNumber.{RuleNumber}
-use Rattle.lab_judge.specs.Judge.{Task, Tell, Append, Swap, BeginOnly, Turn, Finish, Recover, Is, Judged, JudgedModify, JudgedCreate, OrRefused, asked, judged_wiring, need_meaning, need_place, refused, JudgedSwapin, judged_modify_with, in_slot, judged_create_top, judged_delete, judged_ptop, judged_swapin_with}
-use Rattle.lab_judge.specs.OpenNames.{name_of}
+use Rattle.lab_tasks.specs.Tasks.{Task, Tell, Append, Swap, BeginOnly, Turn, Finish, Recover}
+use Rattle.lab_tasks.specs.Needs.{OrRefused, asked, need_meaning, need_place, refused}
+use Rattle.lab_tasks.specs.Mappings.{judged_modify_with, in_slot, judged_swapin_with}
+use Rattle.lab_judge.specs.Judge.{Is, Judged, JudgedCreate, judged_wiring, judged_create_top, judged_delete, judged_ptop}
+use Rattle.lab_judge.specs.Searches.{JudgedModify, JudgedSwapin}
+use Rattle.lab_tasks.specs.OpenNames.{name_of}
 use Rattle.virt_topo.specs.declared.wiring.Wiring.{Wiring}
 use Rattle.lab_base.specs.declared.fault.TextFault.{TextFault}
 

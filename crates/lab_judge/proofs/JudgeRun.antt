@@ -39,14 +39,16 @@ use Rattle.line_text.specs.Refusals.{Reads}
 use Rattle.script_text.specs.declared.reply.Reply.{Reply}
 use Rattle.script_text.specs.declared.reply.Reply.TheVariants as replies
 use Rattle.lab_judge.specs.declared.run.Queue.{Queue}
-use Rattle.lab_judge.specs.declared.task.Refusal.{Refusal}
-use Rattle.lab_judge.specs.declared.task.Refusal.TheVariants as refusals
-use Rattle.lab_judge.specs.declared.task.Task.{Task as TaskInHand}
-use Rattle.lab_judge.specs.declared.task.Task.TheVariants as tasks
-use Rattle.lab_judge.specs.Judge.{IsFound, Swap, Task, Tell, asked, need_lab, need_mapping, need_meaning, refused, task_in}
+use Rattle.lab_tasks.specs.declared.task.Refusal.{Refusal}
+use Rattle.lab_tasks.specs.declared.task.Refusal.TheVariants as refusals
+use Rattle.lab_tasks.specs.declared.task.Task.{Task as TaskInHand}
+use Rattle.lab_tasks.specs.declared.task.Task.TheVariants as tasks
+use Rattle.lab_tasks.specs.Tasks.{Swap, Task, Tell, CanDo, IsJudged, IsRefusedBy, Refuses, task_of}
+use Rattle.lab_tasks.specs.Needs.{asked, need_lab, need_meaning, refused}
+use Rattle.lab_tasks.specs.Mappings.{task_in}
+use Rattle.lab_judge.specs.Searches.{IsFound, need_mapping}
 use Rattle.lab_judge.specs.JudgeRun.{IsJudgedBatch, IsSwapTask, held_back, left_beside}
 use Rattle.lab_judge.specs.Serving.{IsTestedAs, JudgedBatch, JudgedPlace, claimers_at, claimers_of, claims_node, fits, full, places_node, span_of, wait_of, waits}
-use Rattle.lab_judge.specs.Tasks.{CanDo, IsJudged, IsRefusedBy, Refuses, task_of}
 
 -- ---- A BATCH
 -- a lab is wanting; or it is there

@@ -12,14 +12,18 @@ use Rattle.script_text.specs.declared.command.Command.TheVariants as commands
 use Rattle.script_text.specs.declared.reply.Reply.{Reply}
 use Rattle.script_text.specs.declared.reply.Reply.TheVariants.{Bad, NoLab, LabIsSet}
 use Rattle.cost_rule.specs.declared.rule.RuleNumber.{RuleNumber}
-use Rattle.lab_judge.specs.Judge.{need_meaning, need_place, Task, in_slot, judged_wiring, JudgedCreate, refused, asked, Judged, JudgedText, JudgedFound, OrRefused, InSlot, Is, IsFound, is_searched}
+use Rattle.lab_tasks.specs.Needs.{need_meaning, need_place, refused, asked, OrRefused}
+use Rattle.lab_tasks.specs.Tasks.{Task, Gives, IsJudged, IsRefusedBy, task_of}
+use Rattle.lab_tasks.specs.Mappings.{in_slot}
+use Rattle.lab_judge.specs.Judge.{judged_wiring, JudgedCreate, Judged, InSlot, Is}
+use Rattle.lab_judge.specs.Searches.{JudgedText, JudgedFound, IsFound, is_searched}
 use Rattle.lab_base.specs.declared.fault.TextRefused.{TextRefused}
 use Rattle.lab_base.specs.declared.fault.TextRefused.TheVariants as texts
 use Rattle.ns_text.specs.Wirings.{WiringOf, HasWiring}
-use Rattle.lab_judge.specs.declared.task.Task.{Task as TaskInHand}
-use Rattle.lab_judge.specs.declared.task.Refusal.{Refusal}
-use Rattle.lab_judge.specs.declared.task.Refusal.TheVariants.{Refused, Memory}
-use Rattle.lab_judge.specs.Tasks.{Gives, IsJudged, IsRefusedBy, Refuses, task_of}
+use Rattle.lab_tasks.specs.declared.task.Task.{Task as TaskInHand}
+use Rattle.lab_tasks.specs.declared.task.Refusal.{Refusal}
+use Rattle.lab_tasks.specs.declared.task.Refusal.TheVariants.{Refused, Memory}
+use Rattle.lab_tasks.proofs.Asked.{asked_so}
 
 -- ---- ONE JUDGEMENT
 refused_once : {A : Type 0} (needed : Result A Reply) (Judges : A → Result Task Reply → Type 0) (a b : Result Task Reply) → ((x : A) → Judges x a → Judges x b → a ≡ b)
@@ -72,16 +76,6 @@ read_so t w h = h
 fault_so : (t : List ℕ) (fault : TextFault) → HasWiring t (Err (texts.Text fault)) → WiringOf t (Err fault)
 unfolding HasWiring
 fault_so t fault h = h
-
--- a check refused, or gave a value
-pub refuses_so : {A : Type 0} (needed : Result A Reply) (Judges : A → Result Task Reply → Type 0) (refusal : Refusal) → Refuses {X = Unit {0}} needed (Err refusal) → IsJudged (OrRefused needed Judges) (Err refusal)
-refuses_so needed Judges (Refused reply) h = (refused reply h.0 refl, h.1)
-refuses_so needed Judges Memory h = tt
-
-pub asked_so : {A : Type 0} (needed : Result A Reply) (Judges : A → Result Task Reply → Type 0) (x : A) (result : Result TaskInHand Refusal) → needed ≡ Ok x → IsJudged (Judges x) result → IsJudged (OrRefused needed Judges) result
-asked_so needed Judges x (Ok task) is h = asked x is h
-asked_so needed Judges x (Err (Refused reply)) is h = (asked x is h.0, h.1)
-asked_so needed Judges x (Err Memory) is h = tt
 
 -- a text was read
 with_meaning : (exp text : List ℕ) (Judges : Wiring → Result Task Reply → Type 0) (meaning : Result Wiring TextFault) → WiringOf text meaning → (result : Result TaskInHand Refusal)

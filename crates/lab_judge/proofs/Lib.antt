@@ -1,18 +1,8 @@
-mod Behind
-pub mod Busy
-mod Checks
 mod Claimed
-pub mod Drops
-mod EventChanges
 pub mod Fits
-mod JudgePlay
 mod JudgeRun
-mod JudgeSwap
 mod JudgeTasks
 pub mod Judgements
 mod SearchLaws
 mod Searched
 mod Shown
-mod Tags
-mod Taken
-mod WaysIn

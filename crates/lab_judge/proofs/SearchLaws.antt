@@ -17,7 +17,7 @@ use Rattle.assign_core.specs.Exact.{IsAllowed, node_maps}
 use Rattle.assign_core.specs.declared.whole.Solved.{Solved}
 use Rattle.assign_core.specs.declared.whole.Solved.TheVariants as solved
 use Rattle.records_model.specs.Labs.{others}
-use Rattle.lab_judge.specs.Judge.{IsFound, AreLocal}
+use Rattle.lab_judge.specs.Searches.{IsFound, AreLocal}
 
 -- ---- ONE IS THE FIRST LEAST
 least_once : {X : Type 0} (cost : X → ℕ) (xs : List X) (x y : X) → IsFirstLeast cost xs x → IsFirstLeast cost xs y → x ≡ y

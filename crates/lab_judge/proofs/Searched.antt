@@ -18,9 +18,9 @@ use Rattle.assign_core.specs.Exact.{IfFound, IsAllowed}
 use Rattle.assign_core.specs.declared.whole.Solved.{Solved}
 use Rattle.assign_core.specs.declared.whole.Solved.TheVariants as solved
 use Rattle.records_model.specs.Labs.{LabState, lab_in}
-use Rattle.lab_judge.specs.Judge.{IsFound}
-use Rattle.lab_judge.specs.JudgeSwap.{IsThere, Keeps}
-use Rattle.lab_judge.proofs.JudgeSwap.{at, checks, left_is}
+use Rattle.lab_judge.specs.Searches.{IsFound}
+use Rattle.lab_tasks.specs.JudgeSwap.{IsThere, Keeps}
+use Rattle.lab_tasks.proofs.JudgeSwap.{at, checks, left_is}
 
 -- THE SEARCH on what is free beside the others
 module _ (s : LabState) (lab : Lab) (e : Experiment) (held : Held) (o : IsThere s lab e) (of_es : ClaimsOf (lab_in s.lab) s.experiments held) (w : Wiring) (free : Free) (left : IsLeftTo held e.name free) where

@@ -10,7 +10,8 @@ use Rattle.claims.specs.Experiments.{ClaimsOf}
 use Rattle.script_text.specs.declared.reply.StatusLine.{StatusLine}
 use Rattle.script_text.specs.declared.reply.Reply.{Reply}
 use Rattle.script_text.specs.declared.reply.Reply.TheVariants.{Listed}
-use Rattle.lab_judge.specs.Judge.{Task, Tell, judged_status, status_line, status_reply}
+use Rattle.lab_tasks.specs.Tasks.{Task, Tell}
+use Rattle.lab_judge.specs.Judge.{judged_status, status_line, status_reply}
 use Rattle.lab_judge.proofs.Claimed.{nodes_left, ids_left_are}
 
 -- one line more

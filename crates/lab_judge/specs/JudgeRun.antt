@@ -14,13 +14,12 @@ use Rattle.lab_ahead.specs.declared.waits.Wait.{Wait}
 use Rattle.lab_ahead.specs.Ends.{left_for}
 use Rattle.lab_judge.specs.declared.run.Queue.{Queue}
 use Rattle.lab_judge.specs.declared.space.Space.{Space}
-use Rattle.lab_judge.specs.declared.task.Task.{Task as TaskInHand}
-use Rattle.lab_judge.specs.declared.task.Task.TheVariants as tasks
-use Rattle.lab_judge.specs.declared.task.Refusal.{Refusal}
-use Rattle.lab_judge.specs.declared.task.Refusal.TheVariants as refusals
-use Rattle.lab_judge.specs.Judge.{Swap, Task, Tell}
+use Rattle.lab_tasks.specs.declared.task.Task.{Task as TaskInHand}
+use Rattle.lab_tasks.specs.declared.task.Task.TheVariants as tasks
+use Rattle.lab_tasks.specs.declared.task.Refusal.{Refusal}
+use Rattle.lab_tasks.specs.declared.task.Refusal.TheVariants as refusals
+use Rattle.lab_tasks.specs.Tasks.{Swap, Task, Tell, IsMild, task_of}
 use Rattle.lab_judge.specs.Serving.{JudgedBatch, claimers_of, first_run, wait_of}
-use Rattle.lab_judge.specs.Tasks.{IsMild, task_of}
 
 -- what is judged of a batch is one of these
 abbrev pub IsJudgedBatch : LabState → List ℕ → Result Batch Refusal → Type 0

@@ -1,10 +1,4 @@
-pub mod Counts
-pub mod EventChanges
 pub mod Judge
-pub mod JudgePlay
 pub mod JudgeRun
-pub mod JudgeSwap
-pub mod OpenNames
-pub mod Playing
+pub mod Searches
 pub mod Serving
-pub mod Tasks

@@ -24,7 +24,11 @@ use Rattle.lab_ahead.specs.Moments.{FitsFor}
 use Rattle.lab_ahead.specs.Waits.{IsShortAt}
 use Rattle.script_text.specs.declared.reply.Reply.{Reply}
 use Rattle.script_text.specs.declared.reply.Reply.TheVariants as replies
-use Rattle.lab_judge.specs.Judge.{InSlot, IsFound, OrRefused, Swap, Task, Tell, need_idle_out, need_lab, need_mapping, need_meaning, task_in}
+use Rattle.lab_tasks.specs.Needs.{OrRefused, need_idle_out, need_lab, need_meaning}
+use Rattle.lab_tasks.specs.Tasks.{Swap, Task, Tell}
+use Rattle.lab_tasks.specs.Mappings.{task_in}
+use Rattle.lab_judge.specs.Judge.{InSlot}
+use Rattle.lab_judge.specs.Searches.{IsFound, need_mapping}
 
 -- a virtual node of that mapping, if there is one, is placed on the node of that number
 abbrev pub places_node : ℕ → Option Mapped → Bool

@@ -7,45 +7,29 @@ ghost use Rattle.top_text.specs.Canonical.{canonical_top};
 ghost use Rattle.top_text.specs.Printable.{is_printable};
 ghost use Rattle.virt_topo.specs.Soundness.{IsSound};
 ghost use Rattle.script_text.specs.Blocks.{HasBlocks};
-ghost use Rattle.records_model.specs.Labs.{LabState as AnyLabState};
-ghost use Rattle.script_text.specs.declared.reply.Reply.{Reply as AnyReply};
-ghost use Rattle.lab_judge.specs.Judge.{is_unjudged, Task as AnyTask, Judged, JudgedCreate, in_slot, judged_create_top, judged_delete, judged_finish, judged_ptop, judged_recover, judged_show, judged_status, judged_swapout, judged_turn, judged_wiring, need_place};
-ghost use Rattle.lab_judge.specs.OpenNames.{has_open, has_open_for};
-ghost use Rattle.lab_judge.specs.Tasks.{CanDo, Gives, IsJudged, IsRefusedBy};
+ghost use Rattle.lab_tasks.specs.Tasks.{CanDo, Gives, IsJudged, IsRefusedBy};
+ghost use Rattle.lab_tasks.specs.Needs.{need_place};
+ghost use Rattle.lab_judge.specs.Judge.{is_unjudged, Judged, JudgedCreate, judged_create_top, judged_delete, judged_finish, judged_ptop, judged_recover, judged_show, judged_status, judged_swapout, judged_turn, judged_wiring};
+ghost use Rattle.lab_tasks.specs.OpenNames.{has_open, has_open_for};
 
-use crate::case::Present;
-use crate::change::judge_modify_with;
-use crate::needs::{
-    need_found, need_idle_in, need_idle_out, need_lab, need_none, need_open, need_place, need_room,
-    need_slot,
-};
 use crate::records::{create_record, delete_record, lab_record, way_out};
 use crate::replies::{created_reply, lab_reply};
 use crate::search::{judge_modify, judge_solve, judge_swapin};
-use crate::swap::judge_swapin_with;
-use crate::task::{NewSwap, Refusal, Task};
 use crate::views::{shown, status_lines};
 use cost_rule::StepRule;
 use lab_base::{MAX_PAYLOAD_TEXT, Name, TEXT_LIMIT, Text, TextRefused};
 use lab_state::LabState;
+use lab_tasks::{
+    NewSwap, Present, Refusal, Task, bad_text, in_slot, judge_modify_with, judge_swapin_with,
+    need_found, need_idle_in, need_idle_out, need_lab, need_none, need_open, need_place, need_room,
+};
 use ns_text::{Printed, read_and_print};
 use ptop_text::{print_ptop, read_ptop};
 use script_text::{Command, Reply};
 use std::alloc::Global;
-use swap_mgr::Manager;
 use swap_plan::plan_out;
 use top_text::{print_top, read_top};
 use virt_topo::{Wiring, has_multiplexed};
-
-/// A block of that experiment has no meaning.
-pub(crate) fn bad_text(exp: Name, refused: TextRefused) -> Refusal
-    ensures { IsRefusedBy (replies.Bad exp) refused result }
-{
-    match refused {
-        TextRefused::Text(fault) => Refusal::Refused(Reply::Bad { exp, fault }),
-        TextRefused::Memory => Refusal::Memory,
-    }
-}
 
 fn bad_ptop(refused: TextRefused) -> Refusal
     ensures { IsRefusedBy replies.BadPtop refused result }
@@ -160,25 +144,6 @@ fn judge_swapout(alloc: Global, present: &Present, exp: Name) -> Result<Task, Re
         way: way_out(exp),
         ops,
     }))
-}
-
-/// A swap that nothing refuses needs room among the open swaps, and is only begun where its command says so.
-pub(crate) fn in_slot(
-    swaps: &Manager,
-    only_begin: bool,
-    judged: Result<Task, Refusal>,
-) -> Result<Task, Refusal>
-    ensures judged { (judgement : Result AnyTask AnyReply) → Gives judgement judged → Gives (in_slot (length swaps.now) only_begin judgement) result }
-    ensures can { (s : AnyLabState) → IfOk judged (CanDo s) → IfOk result (CanDo s) }
-{
-    let task = judged?;
-    match need_slot(swaps) {
-        Ok(()) => Ok(task.begun_as(only_begin)),
-        Err(refusal) => {
-            drop(task);
-            Err(refusal)
-        }
-    }
 }
 
 fn judge_turn(present: &Present, exp: Name) -> Result<Task, Refusal>

@@ -3,20 +3,17 @@ ghost use Rattle.std.specs.Prelude.{◌≡◌, ◌<◌, IfOk, Ok, length};
 ghost use Rattle.assign_core.specs.Exact.{IfFound};
 ghost use Rattle.lab_model.specs.Shapes.{IsShaped};
 ghost use Rattle.virt_topo.specs.Soundness.{IsSound};
-ghost use Rattle.lab_judge.specs.OpenNames.{has_open};
-ghost use Rattle.lab_judge.specs.Judge.{IsFound, JudgedFound, JudgedModify, JudgedSolve, JudgedSwapin, judged_entry, judged_move, judged_solved, need_mapping};
-ghost use Rattle.lab_judge.specs.JudgeSwap.{IsInIn, IsOutIn, IsThere, Keeps};
-ghost use Rattle.lab_judge.specs.Tasks.{CanDo, Gives, IsJudged, Refuses};
+ghost use Rattle.lab_tasks.specs.OpenNames.{has_open};
+ghost use Rattle.lab_judge.specs.Searches.{IsFound, JudgedFound, JudgedModify, JudgedSolve, JudgedSwapin, judged_entry, judged_move, judged_solved, need_mapping};
+ghost use Rattle.lab_tasks.specs.JudgeSwap.{IsInIn, IsOutIn, IsThere, Keeps};
+ghost use Rattle.lab_tasks.specs.Tasks.{CanDo, Gives, IsJudged, Refuses};
 
-use crate::case::{Case, Present};
-use crate::change::change_to;
-use crate::command::bad_text;
-use crate::needs::{need_idle_in, need_idle_out};
-use crate::swap::swap_to;
-use crate::task::{Refusal, Task};
 use assign_core::{Solved, solve};
 use cost_rule::StepRule;
 use lab_base::{Memory, Name, TEXT_LIMIT, Tags};
+use lab_tasks::{
+    Case, Present, Refusal, Task, bad_text, change_to, need_idle_in, need_idle_out, swap_to,
+};
 use ns_text::read_network;
 use phys_lab::Lab;
 use script_text::Reply;

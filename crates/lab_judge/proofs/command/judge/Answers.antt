@@ -1,7 +1,9 @@
 use Rattle.std.proofs.Common.{arith, length}
 use Rattle.script_text.proofs.Blocks.{block_length, block_size}
-use Rattle.lab_judge.specs.OpenNames.{has_open}
-use Rattle.lab_judge.specs.Judge.{JudgedModify, JudgedSwapin, judged_modify_with, judged_swapin_with, judged_swapout}
+use Rattle.lab_tasks.specs.OpenNames.{has_open}
+use Rattle.lab_tasks.specs.Mappings.{judged_modify_with, judged_swapin_with}
+use Rattle.lab_judge.specs.Searches.{JudgedModify, JudgedSwapin}
+use Rattle.lab_judge.specs.Judge.{judged_swapout}
 use Rattle.lab_judge.proofs.Judgements.{slot_judged, slot_so}
 use Rattle.lab_judge.proofs.command.judge.Goals as goal
 

@@ -1,7 +1,9 @@
 use Rattle.std.proofs.lemmas.Result.{err_from_is_err_and}
 use Rattle.std.proofs.Common.{Err}
-use Rattle.lab_judge.specs.Judge.{judged_wiring, need_place}
-use Rattle.lab_judge.proofs.Judgements.{asked_so, fault_refuses, is_so, refuses_so, text_so}
+use Rattle.lab_tasks.specs.Needs.{need_place}
+use Rattle.lab_judge.specs.Judge.{judged_wiring}
+use Rattle.lab_tasks.proofs.Asked.{asked_so, refuses_so}
+use Rattle.lab_judge.proofs.Judgements.{fault_refuses, is_so, text_so}
 use Rattle.lab_judge.proofs.command.judge_create.Goals as goal
 
 pub returns-in_err-need_place-clause-judged : goal.returns-in_err-need_place-clause-judged

@@ -4,11 +4,12 @@ use Rattle.journal_rec.specs.declared.record.Record.{Record}
 use Rattle.journal_rec.specs.declared.record.Record.TheVariants.{Delete}
 use Rattle.script_text.specs.declared.reply.Reply.{Reply}
 use Rattle.script_text.specs.declared.reply.Reply.TheVariants.{Deleted}
-use Rattle.lab_judge.specs.Judge.{Append, Task, need_idle_out}
-use Rattle.lab_judge.specs.declared.task.Task.TheVariants as tasks
-use Rattle.lab_judge.specs.OpenNames.{has_open}
+use Rattle.lab_tasks.specs.Tasks.{Append, Task}
+use Rattle.lab_tasks.specs.Needs.{need_idle_out}
+use Rattle.lab_tasks.specs.declared.task.Task.TheVariants as tasks
+use Rattle.lab_tasks.specs.OpenNames.{has_open}
 use Rattle.lab_judge.proofs.JudgeTasks.{can_delete}
-use Rattle.lab_judge.proofs.Checks.{given_by, refused_by}
+use Rattle.lab_tasks.proofs.Checks.{given_by, refused_by}
 use Rattle.lab_judge.proofs.command.judge_delete.Goals as goal
 
 pub returns-in_err-_idle-clause-judged : goal.returns-in_err-_idle-clause-judged

@@ -1,4 +1,4 @@
-use Rattle.lab_judge.proofs.JudgeTasks.{stands_sound}
+use Rattle.lab_tasks.proofs.JudgeTasks.{stands_sound}
 use Rattle.lab_judge.proofs.command.judge_show.Goals as goal
 
 pub shown-requires : goal.shown-requires

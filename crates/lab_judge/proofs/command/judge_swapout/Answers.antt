@@ -3,11 +3,13 @@ use Rattle.std.proofs.lemmas.Result.{err_from_is_err_and}
 use Rattle.journal_rec.specs.declared.record.Way.{Way}
 use Rattle.journal_rec.specs.declared.record.Way.TheVariants.{Out as WayOut}
 use Rattle.script_text.specs.declared.reply.Reply.{Reply}
-use Rattle.lab_judge.specs.Judge.{Swap, Task, need_idle_in}
-use Rattle.lab_judge.specs.declared.task.Task.TheVariants as tasks
-use Rattle.lab_judge.specs.OpenNames.{has_open}
-use Rattle.lab_judge.proofs.JudgeTasks.{can_leave, stands_sound}
-use Rattle.lab_judge.proofs.Checks.{given_by, refused_by}
+use Rattle.lab_tasks.specs.Tasks.{Swap, Task}
+use Rattle.lab_tasks.specs.Needs.{need_idle_in}
+use Rattle.lab_tasks.specs.declared.task.Task.TheVariants as tasks
+use Rattle.lab_tasks.specs.OpenNames.{has_open}
+use Rattle.lab_tasks.proofs.JudgeTasks.{stands_sound}
+use Rattle.lab_judge.proofs.JudgeTasks.{can_leave}
+use Rattle.lab_tasks.proofs.Checks.{given_by, refused_by}
 use Rattle.lab_judge.proofs.command.judge_swapout.Goals as goal
 
 pub returns-in_err-lab-clause-judged : goal.returns-in_err-lab-clause-judged

@@ -6,7 +6,7 @@ use Rattle.phys_lab.specs.declared.parts.Node.{Node}
 use Rattle.records_model.specs.Labs.{lab_in}
 use Rattle.claims.specs.Held.{claim_nodes, owner_of}
 use Rattle.lab_judge.specs.Serving.{claimers_of}
-use Rattle.lab_judge.proofs.JudgeSwap.{is_none_not}
+use Rattle.lab_tasks.proofs.JudgeSwap.{is_none_not}
 use Rattle.lab_judge.proofs.JudgeRun.{owners_claim}
 use Rattle.lab_judge.proofs.run.claimers_of.Goals as goal
 

@@ -1,8 +1,7 @@
 use Rattle.std.proofs.Common.{Ok, sym, subst}
-use Rattle.lab_judge.specs.Judge.{Task}
+use Rattle.lab_tasks.specs.Tasks.{Task, task_of}
 use Rattle.lab_judge.specs.JudgeRun.{left_beside, space_in}
 use Rattle.lab_judge.specs.Serving.{IsTestedAs, span_of}
-use Rattle.lab_judge.specs.Tasks.{task_of}
 use Rattle.lab_judge.proofs.JudgeRun.{swap_record, tested_so}
 use Rattle.lab_judge.proofs.run.judge_place.Goals as goal
 

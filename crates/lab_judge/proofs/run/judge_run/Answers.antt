@@ -1,5 +1,5 @@
 use Rattle.std.proofs.Common.{false, length}
-use Rattle.lab_judge.specs.OpenNames.{has_open}
+use Rattle.lab_tasks.specs.OpenNames.{has_open}
 use Rattle.lab_judge.specs.JudgeRun.{space_in}
 use Rattle.lab_judge.specs.Serving.{JudgedTest}
 use Rattle.lab_judge.proofs.Judgements.{slot_so}

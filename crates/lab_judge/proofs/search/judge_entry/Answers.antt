@@ -1,9 +1,10 @@
 use Rattle.std.proofs.Common.{Ok, Err, Result, ap, sym}
 use Rattle.std.proofs.lemmas.Result.{err_from_is_err_and}
 use Rattle.script_text.specs.declared.reply.Reply.{Reply}
-use Rattle.lab_judge.specs.Judge.{Task, judged_entry, need_mapping}
+use Rattle.lab_tasks.specs.Tasks.{Task}
+use Rattle.lab_judge.specs.Searches.{judged_entry, need_mapping}
 use Rattle.lab_judge.proofs.Judgements.{found_so}
-use Rattle.lab_judge.proofs.Checks.{given_by, refused_by}
+use Rattle.lab_tasks.proofs.Checks.{given_by, refused_by}
 use Rattle.lab_judge.proofs.search.judge_entry.Goals as goal
 
 pub search-requires-clause-there : goal.search-requires-clause-there

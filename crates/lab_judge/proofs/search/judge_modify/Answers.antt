@@ -1,8 +1,9 @@
 use Rattle.std.proofs.lemmas.Result.{err_from_is_err_and}
 use Rattle.std.proofs.Common.{Err}
-use Rattle.lab_judge.specs.OpenNames.{has_open}
-use Rattle.lab_judge.specs.Judge.{need_idle_in}
-use Rattle.lab_judge.proofs.Judgements.{asked_so, fault_refuses, refuses_so, text_so}
+use Rattle.lab_tasks.specs.OpenNames.{has_open}
+use Rattle.lab_tasks.specs.Needs.{need_idle_in}
+use Rattle.lab_tasks.proofs.Asked.{asked_so, refuses_so}
+use Rattle.lab_judge.proofs.Judgements.{fault_refuses, text_so}
 use Rattle.lab_judge.proofs.search.judge_modify.Goals as goal
 
 pub returns-in_err-lab-clause-judged : goal.returns-in_err-lab-clause-judged

@@ -1,8 +1,10 @@
 use Rattle.std.proofs.lemmas.Result.{err_from_is_err_and}
-use Rattle.lab_judge.specs.OpenNames.{has_open}
-use Rattle.lab_judge.specs.Judge.{judged_solved, need_idle_out}
-use Rattle.lab_judge.proofs.JudgeSwap.{sound_of}
-use Rattle.lab_judge.proofs.Judgements.{asked_so, found_so, refuses_so}
+use Rattle.lab_tasks.specs.OpenNames.{has_open}
+use Rattle.lab_tasks.specs.Needs.{need_idle_out}
+use Rattle.lab_judge.specs.Searches.{judged_solved}
+use Rattle.lab_tasks.proofs.JudgeSwap.{sound_of}
+use Rattle.lab_tasks.proofs.Asked.{asked_so, refuses_so}
+use Rattle.lab_judge.proofs.Judgements.{found_so}
 use Rattle.lab_judge.proofs.search.judge_solve.Goals as goal
 
 pub returns-in_err-lab-clause-judged : goal.returns-in_err-lab-clause-judged

@@ -1,5 +1,5 @@
 use Rattle.std.proofs.Common.{sym}
-use Rattle.lab_judge.proofs.JudgeSwap.{is_none_not, left_is}
+use Rattle.lab_tasks.proofs.JudgeSwap.{is_none_not, left_is}
 use Rattle.lab_judge.proofs.Searched.{found_if, keeps_if}
 use Rattle.lab_judge.proofs.search.search.Goals as goal
 

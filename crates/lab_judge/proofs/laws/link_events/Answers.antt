@@ -1,5 +1,0 @@
-use Rattle.lab_judge.proofs.EventChanges.{events_are_changes}
-use Rattle.lab_judge.proofs.laws.link_events.Goals as goal
-
-pub returns : goal.returns
-returns c = events_are_changes

@@ -1,0 +1,9 @@
+pub mod Counts
+pub mod EventChanges
+pub mod JudgePlay
+pub mod JudgeSwap
+pub mod Mappings
+pub mod Needs
+pub mod OpenNames
+pub mod Playing
+pub mod Tasks
