@@ -41,11 +41,11 @@ use Rattle.script_text.specs.declared.command.Command.{Command}
 use Rattle.script_text.specs.declared.reply.Reply.{Reply}
 use Rattle.script_text.specs.declared.reply.Reply.TheVariants.{Trouble as TroubleReply}
 use Rattle.lab_core.specs.Breaks.{StartsBehind}
-use Rattle.lab_judge.specs.Judge.{Task, Tell, Append, Swap, BeginOnly, Turn, Finish, Recover}
+use Rattle.lab_tasks.specs.Tasks.{Task, Tell, Append, Swap, BeginOnly, Turn, Finish, Recover}
 use Rattle.lab_core.specs.LabSteps.{AppendEnds, Appends, BeginSteps, Begins, Does, EndsSwap, IfSpace, IsAnswered, IsDoneBy, JudgedBeside, Replies, Swaps, Turns, begun_at, broken, does, end_reply, end_session, has_space, is_told, no_memory, turn_reply, turned_on, whole}
 use Rattle.lab_core.specs.Recovery.{Recovers, broken_off, settled}
 use Rattle.lab_core.specs.Sessions.{OpenSwap, Open, Setting, After, name_in, names_of}
-use Rattle.lab_judge.specs.OpenNames.{is_among, name_of}
+use Rattle.lab_tasks.specs.OpenNames.{is_among, name_of}
 use Rattle.recovery.specs.Due.{is_busy}
 use Rattle.lab_core.proofs.Listings.{IsPlain}
 use Rattle.lab_judge.proofs.Fits.{IsFit, IsOwn, fits}

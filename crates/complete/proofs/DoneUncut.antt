@@ -23,12 +23,12 @@ use Rattle.swap_turns.proofs.Showing.{swap_shows}
 use Rattle.script_text.specs.declared.command.Command.{Command}
 use Rattle.script_text.specs.declared.reply.Reply.{Reply}
 use Rattle.lab_core.specs.Breaks.{Breaks, StartsBehind, stopped, failed, unanswered}
-use Rattle.lab_judge.specs.Judge.{Task, Tell, Append, Swap, BeginOnly, Turn, Finish, Recover}
+use Rattle.lab_tasks.specs.Tasks.{Task, Tell, Append, Swap, BeginOnly, Turn, Finish, Recover}
 use Rattle.lab_core.specs.LabSteps.{AppendEnds, Appends, BeginSteps, Begins, Does, IfSpace, IsAnswered, IsDoneBy, IsOneOf, JudgedBeside, Swaps, broken, does, done_reply, end_reply, has_space, is_told, no_memory, turn_reply, whole}
 use Rattle.lab_core.specs.Recovery.{Recovers, broken_off, settled}
 use Rattle.lab_core.specs.Sessions.{OpenSwap, Setting, After, name_in, names_of}
 use Rattle.lab_core.specs.Tells.{IsTurnOf}
-use Rattle.lab_judge.specs.OpenNames.{is_among, name_of}
+use Rattle.lab_tasks.specs.OpenNames.{is_among, name_of}
 use Rattle.complete.specs.Booted.{GoesWell}
 use Rattle.complete.proofs.JudgedUncut.{cuts, IsJudgedUncut, judged_uncut}
 use Rattle.complete.proofs.GoingWell.{EndsWell, IsSafe, any_front, finish_well, new_safe, settles_well, turn_well, well_behind}

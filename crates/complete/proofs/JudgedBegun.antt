@@ -5,7 +5,9 @@ use Rattle.script_text.specs.declared.command.Command.{Command}
 use Rattle.script_text.specs.declared.command.Command.TheVariants as commands
 use Rattle.script_text.specs.declared.reply.Reply.{Reply}
 use Rattle.cost_rule.specs.declared.rule.RuleNumber.{RuleNumber}
-use Rattle.lab_judge.specs.Judge.{Task, Swap, Judged, in_slot, judged_create_top, judged_ptop}
+use Rattle.lab_tasks.specs.Tasks.{Task, Swap}
+use Rattle.lab_tasks.specs.Mappings.{in_slot}
+use Rattle.lab_judge.specs.Judge.{Judged, judged_create_top, judged_ptop}
 use Rattle.complete.specs.Sends.{begins_whole}
 
 abbrev pub IsBegun : Command → Result Task Reply → Type 0

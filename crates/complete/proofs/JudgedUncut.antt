@@ -11,8 +11,12 @@ use Rattle.script_text.specs.declared.command.Command.TheVariants as commands
 use Rattle.script_text.specs.declared.reply.Reply.{Reply}
 use Rattle.script_text.specs.declared.reply.Reply.TheVariants as replies
 use Rattle.cost_rule.specs.declared.rule.RuleNumber.{RuleNumber}
-use Rattle.lab_judge.specs.Judge.{OrRefused, Task, Tell, Append, Swap, Turn, Finish, Judged, asked, in_slot, judged_change, judged_create_top, judged_delete, judged_ptop, judged_swapin_with, need_idle_in, need_idle_out, need_mapping, refused, task_in}
-use Rattle.lab_judge.specs.Playing.{JudgedChange, JudgedEventAt, mapping_in, need_shape}
+use Rattle.lab_tasks.specs.Needs.{OrRefused, asked, need_idle_in, need_idle_out, refused}
+use Rattle.lab_tasks.specs.Tasks.{Task, Tell, Append, Swap, Turn, Finish}
+use Rattle.lab_tasks.specs.Mappings.{in_slot, judged_change, judged_swapin_with, task_in}
+use Rattle.lab_judge.specs.Judge.{Judged, judged_create_top, judged_delete, judged_ptop}
+use Rattle.lab_judge.specs.Searches.{need_mapping}
+use Rattle.lab_tasks.specs.Playing.{JudgedChange, JudgedEventAt, mapping_in, need_shape}
 use Rattle.lab_judge.specs.Serving.{IsTested, IsTestedAs, JudgedPlace, JudgedRunAt, claimers_of, fits, full, span_of, waits}
 use Rattle.lab_core.proofs.Events.{stand_in}
 use Rattle.lab_core.proofs.Runs.{stand_in as stand_in_run}

@@ -12,7 +12,7 @@ use Rattle.lab_core.specs.Commands.{Plays, ground_by}
 use Rattle.lab_core.specs.LabSteps.{IsDoneBy, does, no_memory}
 use Rattle.lab_core.specs.Lists.{Ground, Past, broken, last_reply, listed, more, no_memory as list_no_memory, none, over, refused, wanting}
 use Rattle.lab_core.specs.PlayList.{JudgedNext, behind_event, events_in_turn}
-use Rattle.lab_judge.specs.Playing.{Playing}
+use Rattle.lab_tasks.specs.Playing.{Playing}
 use Rattle.lab_core.specs.Sessions.{OpenSwap, Setting, After, name_in, names_of}
 use Rattle.lab_core.proofs.Events.{plays_first, refuse_so, stand_in}
 use Rattle.complete.specs.Booted.{GoesWell}

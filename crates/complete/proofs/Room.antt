@@ -13,12 +13,13 @@ use Rattle.script_text.specs.declared.command.Command.{Command}
 use Rattle.script_text.specs.declared.command.Command.TheVariants.{Play, Batch, Audit}
 use Rattle.script_text.specs.declared.reply.Reply.{Reply}
 use Rattle.lab_core.specs.Breaks.{Breaks, stopped, failed, unanswered}
-use Rattle.lab_judge.specs.Judge.{Task, Tell, Append, Swap, BeginOnly, Turn, Finish, Recover, Judged, is_unjudged}
+use Rattle.lab_tasks.specs.Tasks.{Task, Tell, Append, Swap, BeginOnly, Turn, Finish, Recover}
+use Rattle.lab_judge.specs.Judge.{Judged, is_unjudged}
 use Rattle.lab_core.specs.Commands.{LabStep}
 use Rattle.lab_core.specs.LabSteps.{Does, DoesBy, Drills, IsAnswered, IsDoneBy, JudgedBeside, StepOf, does, done_reply, end_reply, is_planned, is_refused, is_told, no_memory, not_opened, opened, turn_reply, wants_memory}
 use Rattle.lab_core.specs.Recovery.{Recovers, broken_off, settled}
 use Rattle.lab_core.specs.Sessions.{OpenSwap, Session, Closed, Open, Setting, After, Terms, names_of}
-use Rattle.lab_judge.specs.OpenNames.{is_among, name_of}
+use Rattle.lab_tasks.specs.OpenNames.{is_among, name_of}
 use Rattle.lab_core.proofs.ListSteps.{plain_step}
 use Rattle.complete.specs.Full.{is_full, full_if, settles_or_turns}
 

@@ -15,7 +15,7 @@ use Rattle.swap_turns.specs.Legs.{Forth}
 use Rattle.script_text.specs.declared.reply.Reply.{Reply}
 use Rattle.cost_rule.specs.declared.rule.RuleNumber.{RuleNumber}
 use Rattle.lab_ahead.specs.declared.batch.Run.{Run}
-use Rattle.lab_judge.specs.Playing.{Playing}
+use Rattle.lab_tasks.specs.Playing.{Playing}
 use Rattle.lab_judge.specs.Serving.{Serving}
 use Rattle.lab_core.specs.BatchList.{is_run_of, runs_in_turn}
 use Rattle.lab_core.specs.Lists.{DoesNext, Ground}

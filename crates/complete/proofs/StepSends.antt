@@ -16,8 +16,9 @@ use Rattle.script_text.specs.Drills.{drill_of}
 use Rattle.script_text.specs.declared.command.Command.{Command}
 use Rattle.script_text.specs.declared.command.Command.TheVariants.{Audit, Batch, Play}
 use Rattle.script_text.specs.declared.reply.Reply.{Reply}
-use Rattle.lab_judge.specs.Judge.{Task, Tell, Append, Swap, BeginOnly, Turn, Finish, Recover, is_unjudged}
-use Rattle.lab_judge.specs.OpenNames.{is_among, name_of}
+use Rattle.lab_tasks.specs.Tasks.{Task, Tell, Append, Swap, BeginOnly, Turn, Finish, Recover}
+use Rattle.lab_judge.specs.Judge.{is_unjudged}
+use Rattle.lab_tasks.specs.OpenNames.{is_among, name_of}
 use Rattle.lab_judge.proofs.Fits.{IsFit, fits}
 use Rattle.lab_core.specs.Auditing.{Audits, no_lab, told as all_told, unread, no_memory as wants_in_audit}
 use Rattle.lab_core.specs.Breaks.{StartsBehind}

@@ -25,8 +25,9 @@ use Rattle.swap_turns.specs.Legs.{Forth, Leg, Undo}
 use Rattle.swap_turns.specs.Running.{OpenSwap as RunningSwap}
 use Rattle.swap_turns.specs.Swaps.{Moves, Swap as SwapOf}
 use Rattle.swap_turns.specs.Turning.{Outcome, More, TurnsBack, Ended, Stuck, Unwritten, Stopped as Halted, TurnSteps}
-use Rattle.lab_judge.specs.Judge.{Append, BeginOnly, Finish, Recover, Swap, Task, Tell, Turn, is_unjudged}
-use Rattle.lab_judge.specs.OpenNames.{is_among, name_of}
+use Rattle.lab_tasks.specs.Tasks.{Append, BeginOnly, Finish, Recover, Swap, Task, Tell, Turn}
+use Rattle.lab_judge.specs.Judge.{is_unjudged}
+use Rattle.lab_tasks.specs.OpenNames.{is_among, name_of}
 use Rattle.lab_core.specs.Commands.{LabStep}
 use Rattle.lab_core.specs.LabSteps.{Does, DoesBy, EndsSwap, IsDoneBy, JudgedBeside, StepOf, Turns, begun_at, does, done_reply, end_reply, no_memory, turn_reply, turned_on, undone_end}
 use Rattle.lab_core.specs.Moments.{IsLabAt}

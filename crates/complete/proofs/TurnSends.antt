@@ -17,8 +17,9 @@ use Rattle.script_text.specs.declared.command.Command.{Command}
 use Rattle.script_text.specs.declared.command.Command.TheVariants.{Turn as TurnOf}
 use Rattle.script_text.specs.declared.reply.Reply.{Reply}
 use Rattle.script_text.specs.declared.reply.Reply.TheVariants as replies
-use Rattle.lab_judge.specs.Judge.{Task, Turn, judged_turn}
-use Rattle.lab_judge.specs.OpenNames.{is_among}
+use Rattle.lab_tasks.specs.Tasks.{Task, Turn}
+use Rattle.lab_judge.specs.Judge.{judged_turn}
+use Rattle.lab_tasks.specs.OpenNames.{is_among}
 use Rattle.lab_core.specs.Breaks.{Breaks, failed, stopped, unanswered}
 use Rattle.lab_core.specs.Commands.{LabStep}
 use Rattle.lab_core.specs.LabSteps.{Does, IsAnswered, IsDoneBy, JudgedBeside, Turns, does, done_reply, end_reply, is_told, no_memory, not_opened, opened, turn_reply, turned_on}

@@ -23,8 +23,9 @@ use Rattle.swap_turns.specs.Legs.{Undo}
 use Rattle.swap_turns.specs.Running.{OpenSwap as RunningSwap}
 use Rattle.swap_turns.specs.Swaps.{Moves}
 use Rattle.swap_turns.specs.Turning.{Outcome, More, TurnsBack, Ended, Stuck, Unwritten, Stopped as Halted, TurnSteps}
-use Rattle.lab_judge.specs.Judge.{Task, Finish, Turn, judged_finish, judged_turn}
-use Rattle.lab_judge.specs.OpenNames.{is_among}
+use Rattle.lab_tasks.specs.Tasks.{Task, Finish, Turn}
+use Rattle.lab_judge.specs.Judge.{judged_finish, judged_turn}
+use Rattle.lab_tasks.specs.OpenNames.{is_among}
 use Rattle.lab_core.specs.Commands.{LabStep}
 use Rattle.lab_core.specs.LabSteps.{Does, IsDoneBy, IsOneOf, JudgedBeside, Turns, does, no_memory, not_opened, opened, turned_on}
 use Rattle.lab_core.specs.Moments.{IsLabAt}

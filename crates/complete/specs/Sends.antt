@@ -13,7 +13,7 @@ use Rattle.swap_turns.specs.Legs.{Forth}
 use Rattle.swap_turns.specs.Swaps.{Swap, Moves}
 use Rattle.script_text.specs.declared.command.Command.{Command}
 use Rattle.script_text.specs.declared.command.Command.TheVariants.{Batch, Modify, ModifyWith, Play, Recover, Swapin, SwapinWith, Swapout}
-use Rattle.lab_judge.specs.OpenNames.{name_of}
+use Rattle.lab_tasks.specs.OpenNames.{name_of}
 use Rattle.lab_core.specs.Sessions.{OpenSwap, name_in, names_of}
 use Rattle.lab_core.specs.Tells.{IsTurnOf}
 use Rattle.complete.specs.Bounds.{commands_in, most_from, most_settled}

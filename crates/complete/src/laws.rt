@@ -21,7 +21,7 @@ ghost use Rattle.script_text.specs.declared.reply.Reply.{Reply};
 ghost use Rattle.script_text.specs.declared.reply.Reply.TheVariants.{In, More, Recovered, Served as ServedReply};
 ghost use Rattle.script_text.specs.declared.reply.Served.{Served};
 ghost use Rattle.cost_rule.specs.declared.rule.RuleNumber.{RuleNumber};
-ghost use Rattle.lab_judge.specs.Playing.{Playing};
+ghost use Rattle.lab_tasks.specs.Playing.{Playing};
 ghost use Rattle.lab_judge.specs.Serving.{Serving};
 ghost use Rattle.lab_core.specs.BatchList.{is_run_of, runs_in_turn};
 ghost use Rattle.lab_core.specs.Commands.{LabStep, is_about};

@@ -22,7 +22,8 @@ use Rattle.script_text.specs.declared.reply.Reply.{Reply}
 use Rattle.script_text.specs.declared.reply.Reply.TheVariants as replies
 use Rattle.script_text.specs.declared.reply.FailedEnd.TheVariants as ends
 use Rattle.script_text.specs.declared.command.Command.TheVariants as commands
-use Rattle.lab_judge.specs.Judge.{Task, asked, need_lab, refused}
+use Rattle.lab_tasks.specs.Tasks.{Task}
+use Rattle.lab_tasks.specs.Needs.{asked, need_lab, refused}
 use Rattle.lab_judge.specs.Serving.{JudgedBatch, JudgedRunAt, Serving}
 use Rattle.lab_judge.proofs.Fits.{IsFit}
 use Rattle.lab_core.specs.BatchLines.{AllTell, BatchTells, Line, LinesTell, TellsBefore, replies_of, runs_of, there_in}

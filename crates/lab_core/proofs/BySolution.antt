@@ -38,15 +38,16 @@ use Rattle.swap_turns.specs.Swaps.{Swap as SwapOf}
 use Rattle.swap_turns.specs.Legs.{Forth, Undo, Settling}
 use Rattle.swap_turns.specs.Turning.{Outcome, More, TurnsBack, Ended, Stuck, Unwritten, Stopped as Halted}
 use Rattle.swap_turns.specs.Whole.{Begun, SwapSteps, begun, unwritten, stopped as stopped_so}
-use Rattle.lab_judge.specs.Counts.{least_tags}
-use Rattle.lab_judge.specs.Judge.{Task, Swap, Turn, Finish, in_slot}
+use Rattle.lab_tasks.specs.Counts.{least_tags}
+use Rattle.lab_tasks.specs.Tasks.{Task, Swap, Turn, Finish}
+use Rattle.lab_tasks.specs.Mappings.{in_slot}
 use Rattle.lab_core.specs.LabSteps.{DoesBy, Does, IsDoneBy, does, no_memory, StepOf, IfSpace, Replies, Swaps, BeginSteps, Begins, begun_at, JudgedBeside, IsAnswered, is_told, has_space, end_reply, turn_reply, undone_end}
 use Rattle.lab_core.specs.Commands.{LabStep}
 use Rattle.lab_core.specs.Sessions.{OpenSwap, Session, Open, Setting, After, name_in, names_of, open_at, Terms}
-use Rattle.lab_judge.specs.OpenNames.{is_among}
+use Rattle.lab_tasks.specs.OpenNames.{is_among}
 use Rattle.lab_judge.proofs.Fits.{IsFit, fits, is_outer}
 use Rattle.lab_core.proofs.OpenLaws.{answered_next}
-use Rattle.lab_judge.proofs.Busy.{has_busy}
+use Rattle.lab_tasks.proofs.Busy.{has_busy}
 use Rattle.lab_core.proofs.OpenSwaps.{open_at_one}
 use Rattle.lab_core.proofs.OtherWorlds.{finish_or_refused, turn_or_refused}
 use Rattle.lab_core.proofs.SameSwaps.{has_at}

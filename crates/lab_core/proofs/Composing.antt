@@ -23,7 +23,7 @@ use Rattle.script_text.specs.declared.reply.Reply.TheVariants as replies
 use Rattle.lab_core.specs.declared.fault.CoreFault.{CoreFault}
 use Rattle.lab_core.specs.declared.fault.CoreFault.TheVariants as faults
 use Rattle.lab_core.specs.Controller.{Control, WorksWith}
-use Rattle.lab_judge.specs.Judge.{Task, Recover}
+use Rattle.lab_tasks.specs.Tasks.{Task, Recover}
 use Rattle.lab_core.specs.LabSteps.{IsDoneBy}
 use Rattle.lab_core.specs.Moments.{IsLengthAt, IsLengthBehind, trace_in}
 use Rattle.lab_core.specs.Obey.{AllShut, AnswersBy, EndsBy, Obeys, Shuts, Start, start_of, Obeyed, WantsIn, done_as, reply_of, stays_at_work, undone, between as recovering}

@@ -16,7 +16,8 @@ use Rattle.swap_mgr.specs.declared.progress.Progress.{Progress}
 use Rattle.script_text.specs.declared.reply.Reply.{Reply}
 use Rattle.lab_core.specs.Breaks.{StartsBehind}
 use Rattle.lab_core.specs.Controller.{Control, WorksWith}
-use Rattle.lab_judge.specs.Judge.{Finish, Is}
+use Rattle.lab_tasks.specs.Tasks.{Finish}
+use Rattle.lab_judge.specs.Judge.{Is}
 use Rattle.lab_core.specs.LabSteps.{IsOneOf, does, end_reply, end_session, is_told, turn_reply}
 use Rattle.lab_core.specs.Obey.{start_of, Obeyed}
 use Rattle.lab_core.specs.Sessions.{OpenSwap, Session, IsSince}

@@ -16,10 +16,12 @@ use Rattle.script_text.specs.declared.reply.Reply.{Reply}
 use Rattle.lab_base.specs.declared.fault.TextFault.{TextFault}
 use Rattle.ns_text.specs.declared.read.Script.{Script}
 use Rattle.script_text.specs.declared.reply.Reply.TheVariants as replies
-use Rattle.lab_judge.specs.Judge.{OrRefused, Swap, Task, asked, in_slot, judged_change, need_idle_in, need_meaning, refused}
+use Rattle.lab_tasks.specs.Needs.{OrRefused, asked, need_idle_in, need_meaning, refused}
+use Rattle.lab_tasks.specs.Tasks.{Swap, Task}
+use Rattle.lab_tasks.specs.Mappings.{in_slot, judged_change}
 use Rattle.lab_core.specs.Sessions.{OpenSwap, Setting, names_of}
 use Rattle.lab_judge.proofs.Fits.{IsFit, is_outer}
-use Rattle.lab_judge.specs.Playing.{AreDue, JudgedChange, JudgedEventAt, Playing, bad_shape, first_place, mapping_in, need_shape, need_shapes}
+use Rattle.lab_tasks.specs.Playing.{AreDue, JudgedChange, JudgedEventAt, Playing, bad_shape, first_place, mapping_in, need_shape, need_shapes}
 use Rattle.lab_core.specs.PlayList.{JudgedEvent, JudgedNext, JudgedPlay, events_in_turn}
 use Rattle.lab_core.proofs.Listings.{IsAboutThese, IsFitFor, IsPlain}
 use Rattle.lab_core.proofs.Parts.{is_more}

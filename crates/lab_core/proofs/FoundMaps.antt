@@ -15,7 +15,7 @@ use Rattle.map_anneal.specs.Sought.{Sought, choices, mapped, sought}
 use Rattle.assign_core.specs.Exact.{IsAllowed, all_choices, extended, node_maps}
 use Rattle.assign_core.specs.declared.whole.Solved.{Solved}
 use Rattle.assign_core.specs.declared.whole.Solved.TheVariants as solved
-use Rattle.lab_judge.specs.Judge.{need_mapping}
+use Rattle.lab_judge.specs.Searches.{need_mapping}
 use Rattle.lab_core.proofs.PromiseRuns.{FoundShaped}
 
 -- AN ELEMENT of a list that is filtered and changed

@@ -11,12 +11,12 @@ use Rattle.script_text.specs.Replies.{blames_device, closes}
 use Rattle.script_text.specs.declared.reply.Reply.{Reply}
 use Rattle.lab_core.specs.Controller.{Control, WorksWith}
 use Rattle.lab_core.specs.Sessions.{OpenSwap, WasOpen, blames_now, counted_from, open_at}
-use Rattle.lab_judge.specs.Tasks.{tells_end}
+use Rattle.lab_tasks.specs.Tasks.{tells_end}
 use Rattle.lab_core.specs.Lists.{Listing, Past}
 use Rattle.lab_core.specs.Moments.{trace_in}
 use Rattle.lab_core.specs.Coming.{Origin, ground_of}
 use Rattle.lab_core.specs.PlayList.{events_in_turn}
-use Rattle.lab_judge.specs.Playing.{Playing}
+use Rattle.lab_tasks.specs.Playing.{Playing}
 use Rattle.cost_rule.specs.declared.rule.RuleNumber.{RuleNumber}
 use Rattle.lab_core.specs.InTurn.{origin_of}
 use Rattle.lab_judge.specs.Serving.{Serving}

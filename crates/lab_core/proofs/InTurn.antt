@@ -17,10 +17,10 @@ use Rattle.lab_core.specs.declared.fault.CoreFault.TheVariants as faults
 use Rattle.lab_core.specs.Coming.{Origin}
 use Rattle.lab_core.specs.Controller.{CanWork, Control, WorksWith}
 use Rattle.lab_core.specs.InTurn.{EndsEvent, IsPart, ObeysEvent, ObeysEvents, TellsWhole, is_in, origin_of, stuck_by_journal}
-use Rattle.lab_judge.specs.Judge.{Recover}
+use Rattle.lab_tasks.specs.Tasks.{Recover}
 use Rattle.lab_core.specs.Obey.{Obeyed}
 use Rattle.lab_core.specs.PlayList.{JudgedEvent, behind_event, events_in_turn}
-use Rattle.lab_judge.specs.Playing.{Playing, first_place}
+use Rattle.lab_tasks.specs.Playing.{Playing, first_place}
 use Rattle.lab_core.specs.Sessions.{OpenSwap, blames_now, counted_from, devices_if, name_in, open_at}
 use Rattle.lab_core.proofs.Composing.{begins, comes_on, comes_shut, comes_to_stop, comes_to_want, finished, wants}
 use Rattle.lab_core.proofs.Events.{event_fits}

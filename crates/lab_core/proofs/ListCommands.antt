@@ -13,13 +13,13 @@ use Rattle.lab_core.specs.declared.fault.CoreFault.TheVariants as faults
 use Rattle.lab_core.specs.Coming.{AllDone, AllWants, Origin}
 use Rattle.lab_core.specs.Commands.{ground_by}
 use Rattle.lab_core.specs.Controller.{Control, WorksWith}
-use Rattle.lab_judge.specs.Judge.{Is, Recover, Task}
+use Rattle.lab_tasks.specs.Tasks.{Recover, Task, IsMild}
+use Rattle.lab_judge.specs.Judge.{Is}
 use Rattle.lab_core.specs.LabSteps.{Does, does, no_memory}
 use Rattle.lab_core.specs.Lists.{DoesList, Listing, WantsInList, listed, refused as list_refusal, no_memory as list_no_memory, undone as list_undone, between as list_between}
 use Rattle.lab_core.specs.Moments.{trace_in}
 use Rattle.lab_core.specs.Obey.{AllShut, AnswersBy, Doing, EndsBy, Obeys, Shuts, Wanting, between, done_as, start_of, undone, wants_as}
 use Rattle.lab_core.specs.Sessions.{OpenSwap, After}
-use Rattle.lab_judge.specs.Tasks.{IsMild}
 use Rattle.lab_core.proofs.Obey.{refuses, wanted}
 
 -- ---- WHAT WAS DONE, in other words

@@ -24,14 +24,15 @@ use Rattle.script_text.specs.declared.reply.Reply.TheVariants as replies
 use Rattle.swap_turns.specs.Swaps.{Moves}
 use Rattle.lab_core.specs.LabSteps.{DoesBy, JudgedBeside, StepOf, not_opened, opened}
 use Rattle.lab_core.specs.Commands.{LabStep, ground_by, is_about, is_named}
-use Rattle.lab_judge.specs.Judge.{is_unjudged, Task}
+use Rattle.lab_tasks.specs.Tasks.{Task}
+use Rattle.lab_judge.specs.Judge.{is_unjudged}
 use Rattle.lab_core.specs.Lists.{DoesList, Ground, Listing, broken, last_reply, listed, no_memory, over, refused, wanting}
 use Rattle.lab_core.specs.PlayList.{JudgedPlay, events_in_turn}
-use Rattle.lab_judge.specs.Playing.{Playing}
+use Rattle.lab_tasks.specs.Playing.{Playing}
 use Rattle.lab_judge.specs.Serving.{JudgedBatch, Serving}
 use Rattle.lab_core.specs.BatchList.{has_run, is_run_of, runs_in_turn}
 use Rattle.lab_core.specs.Sessions.{OpenSwap, Session, Setting, After, Closed, Open, Terms, name_in, names_of}
-use Rattle.lab_judge.specs.OpenNames.{name_of}
+use Rattle.lab_tasks.specs.OpenNames.{name_of}
 use Rattle.lab_core.specs.Tells.{AllMove, IsAtRest, busy_of, is_of_drill, opens_of, settles}
 use Rattle.lab_core.proofs.Audited.{audit_moves, audit_no_drill, audit_opens, audit_place, audit_stays, audit_stops}
 use Rattle.lab_core.proofs.Events.{events_are, plays_refuse}
@@ -42,7 +43,7 @@ use Rattle.lab_core.proofs.OuterReplies.{breaks_so, no_drill_of, step_so, of_dri
 use Rattle.lab_core.proofs.OuterSteps.{CommandTells, Tells, no_step_of, plain, still_as, tell_behind, tells_step}
 use Rattle.lab_core.proofs.Others.{Stays, both_stay, same_stays}
 use Rattle.lab_core.proofs.OpenLaws.{Leaves, leaves}
-use Rattle.lab_judge.proofs.Busy.{has_busy}
+use Rattle.lab_tasks.proofs.Busy.{has_busy}
 use Rattle.lab_core.proofs.OpenMoves.{moves_on, set_by, step_moves}
 use Rattle.lab_core.proofs.Places.{breaks_place, no_place, place_as, step_place, TellsPlace}
 use Rattle.lab_core.proofs.StepLaws.{begins_stay, broke, by_one, drills_leave, step_stays, step_stops, was}

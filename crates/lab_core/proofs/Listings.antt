@@ -13,10 +13,10 @@ use Rattle.script_text.specs.declared.reply.Reply.TheVariants as replies
 use Rattle.swap_turns.specs.Legs.{Forth, Undo, Settling}
 use Rattle.swap_turns.specs.Swaps.{Swap as SwapOf}
 use Rattle.swap_turns.specs.Turning.{Outcome, More, TurnsBack, Ended, Stuck, Unwritten, Stopped as Halted}
-use Rattle.lab_judge.specs.Judge.{Task, Tell, Swap}
+use Rattle.lab_tasks.specs.Tasks.{Task, Tell, Swap}
 use Rattle.lab_core.specs.LabSteps.{Does, IfSpace, IsAnswered, IsDoneBy, Replies, Swaps, does, done_reply, end_reply, end_session, has_space, is_told, no_memory}
 use Rattle.lab_core.specs.Sessions.{OpenSwap, Setting, After, Closed, Open, names_of, open_by, shut_by}
-use Rattle.lab_judge.specs.OpenNames.{is_among, name_of}
+use Rattle.lab_tasks.specs.OpenNames.{is_among, name_of}
 use Rattle.lab_judge.proofs.Fits.{IsFit}
 use Rattle.lab_core.proofs.TasksApart.{IsTaskApart, task_apart}
 use Rattle.lab_core.proofs.OpenLaws.{does_next}

@@ -25,14 +25,14 @@ use Rattle.cost_rule.specs.declared.rule.RuleNumber.{RuleNumber}
 use Rattle.lab_core.specs.declared.fault.CoreFault.{CoreFault}
 use Rattle.lab_core.specs.declared.fault.CoreFault.TheVariants as faults
 use Rattle.lab_core.specs.Controller.{Control, WorksWith}
-use Rattle.lab_judge.specs.Judge.{Task, Is, Recover}
+use Rattle.lab_tasks.specs.Tasks.{Task, Recover, tells_end, IsMild}
+use Rattle.lab_judge.specs.Judge.{Is}
 use Rattle.lab_core.specs.LabSteps.{IsDoneBy, JudgedBeside, does, no_memory}
 use Rattle.lab_core.specs.Moments.{trace_in}
 use Rattle.lab_core.specs.Obey.{Start, start_of, AllShut, AnswersBy, EndsBy, Obeyed, Shuts, ToldBy, WantsIn, done_as, undone, between, wants_as}
 use Rattle.lab_core.specs.Recovery.{broken_off, some}
 use Rattle.lab_core.specs.Breaks.{unanswered}
 use Rattle.lab_core.specs.Sessions.{After, Closed, Open, OpenSwap, Session, Setting, AreOpenedBy, blames_now, counted_from, ends_swap, name_in}
-use Rattle.lab_judge.specs.Tasks.{tells_end, IsMild}
 use Rattle.lab_core.proofs.HowFar.{WereOpen}
 
 -- OF WHAT WAS JUDGED: it is done, with that reply; and how it ends

@@ -6,12 +6,12 @@ use Rattle.script_text.specs.declared.reply.Reply.{Reply}
 use Rattle.cost_rule.specs.declared.rule.RuleNumber.{RuleNumber}
 use Rattle.lab_core.specs.declared.fault.CoreFault.{CoreFault}
 use Rattle.lab_core.specs.Controller.{Control, WorksWith}
-use Rattle.lab_judge.specs.OpenNames.{has_open_for, name_of}
-use Rattle.lab_judge.specs.Judge.{Task, Is, Judged}
+use Rattle.lab_tasks.specs.OpenNames.{has_open_for, name_of}
+use Rattle.lab_tasks.specs.Tasks.{Task, IsMild}
+use Rattle.lab_judge.specs.Judge.{Is, Judged}
 use Rattle.lab_core.specs.LabSteps.{JudgedBeside}
 use Rattle.lab_core.specs.Obey.{Obeyed}
 use Rattle.lab_core.specs.Sessions.{OpenSwap}
-use Rattle.lab_judge.specs.Tasks.{IsMild}
 use Rattle.lab_core.specs.Perform.{or_any, swapped_by}
 use Rattle.lab_core.proofs.Obey.{obeyed_as}
 use Rattle.lab_core.proofs.OpenNames.{judged_beside}

@@ -15,16 +15,15 @@ use Rattle.script_text.specs.declared.command.Command.{Command}
 use Rattle.script_text.specs.declared.reply.Reply.{Reply}
 use Rattle.swap_turns.specs.Swaps.{Swap as SwapOf, Moves}
 use Rattle.swap_turns.specs.Turning.{Outcome, More, TurnsBack, Ended, Stuck, Unwritten, Stopped as Halted, TurnSteps}
-use Rattle.lab_judge.specs.Judge.{Task, Tell, Append, Swap, BeginOnly, Turn, Finish, Recover}
+use Rattle.lab_tasks.specs.Tasks.{Task, Tell, Append, Swap, BeginOnly, Turn, Finish, Recover, EndsNoMove}
 use Rattle.lab_core.specs.LabSteps.{AppendEnds, whole, broken, Appends, IsAnswered, is_told, end_session, turn_reply, BeginSteps, Begins as BeginsSwap, begun_at, IsOneOf, turned_on, has_space, IfSpace, Does}
 use Rattle.lab_core.specs.Sessions.{OpenSwap, Session, Closed, Open, Setting, After, name_in, names_of, Terms}
-use Rattle.lab_judge.specs.OpenNames.{is_among, name_of}
-use Rattle.lab_judge.specs.Tasks.{EndsNoMove}
+use Rattle.lab_tasks.specs.OpenNames.{is_among, name_of}
 use Rattle.lab_core.specs.Tells.{AllMove, BeginsAt, busy_of, opens_of}
 use Rattle.lab_judge.proofs.Fits.{IsFit, IsOwn, fits}
 use Rattle.lab_core.proofs.TasksApart.{task_apart}
 use Rattle.lab_core.proofs.OpenLaws.{answered_next, does_next, drill_stands, names_split, not_closed, open_is}
-use Rattle.lab_judge.proofs.Busy.{has_busy}
+use Rattle.lab_tasks.proofs.Busy.{has_busy}
 use Rattle.lab_core.proofs.Others.{record_leaves}
 use Rattle.lab_core.proofs.StepLaws.{Was, done, wanting, broke, drilled, does_stays, drill_is}
 

@@ -14,11 +14,12 @@ use Rattle.swap_txn.specs.declared.live.Live.{Live}
 use Rattle.swap_turns.specs.Running.{OpenSwap as RunningSwap}
 use Rattle.cost_rule.specs.declared.rule.RuleNumber.{RuleNumber}
 use Rattle.lab_core.specs.Controller.{Control, WorksWith}
-use Rattle.lab_judge.specs.OpenNames.{has_open, has_open_for, open_names, is_among, name_of}
-use Rattle.lab_judge.specs.Judge.{Task, Judged}
+use Rattle.lab_tasks.specs.OpenNames.{has_open, has_open_for, open_names, is_among, name_of}
+use Rattle.lab_tasks.specs.Tasks.{Task}
+use Rattle.lab_judge.specs.Judge.{Judged}
 use Rattle.lab_core.specs.LabSteps.{JudgedBeside}
 use Rattle.lab_core.specs.Sessions.{OpenSwap, name_in, names_of}
-use Rattle.lab_judge.proofs.Busy.{busy_has, busy_open, has_busy, open_busy}
+use Rattle.lab_tasks.proofs.Busy.{busy_has, busy_open, has_busy, open_busy}
 
 -- THE SESSION HAS THE SAME NAMES, and as many
 module _ (now : Seen) (c : Control) (opens : List OpenSwap) (works : WorksWith now c opens) where

@@ -14,13 +14,15 @@ use Rattle.script_text.specs.declared.command.Command.TheVariants as commands
 use Rattle.script_text.specs.declared.reply.Reply.{Reply}
 use Rattle.script_text.specs.declared.reply.Reply.TheVariants.{NoLab, NotOpen, Unknown}
 use Rattle.swap_turns.proofs.Elsewhere.{finish_elsewhere, same_world, turn_elsewhere}
-use Rattle.lab_judge.specs.Judge.{Task, Turn, Finish, judged_turn, judged_finish, need_found, need_lab, need_open, ◌>>=◌}
+use Rattle.lab_tasks.specs.Tasks.{Task, Turn, Finish}
+use Rattle.lab_tasks.specs.Needs.{need_found, need_lab, need_open, ◌>>=◌}
+use Rattle.lab_judge.specs.Judge.{judged_turn, judged_finish}
 use Rattle.lab_core.specs.LabSteps.{Does, EndsSwap, IsDoneBy, JudgedBeside, Turns, does, no_memory}
 use Rattle.lab_core.specs.Commands.{LabStep}
 use Rattle.cost_rule.specs.declared.rule.RuleNumber.{RuleNumber}
 use Rattle.swap_turns.proofs.Sounds.{world_stays}
 use Rattle.lab_core.specs.Sessions.{OpenSwap, Open, Setting, After, names_of, Terms}
-use Rattle.lab_judge.specs.OpenNames.{is_among}
+use Rattle.lab_tasks.specs.OpenNames.{is_among}
 use Rattle.lab_core.specs.Tells.{IsTurnOf}
 use Rattle.lab_core.proofs.TurnLaws.{answer_calm}
 

@@ -38,7 +38,7 @@ use Rattle.swap_turns.specs.Whole.{SwapSteps, begun, unwritten, stopped}
 use Rattle.swap_turns.proofs.Finishing.{onward_swap}
 use Rattle.lab_core.specs.LabSteps.{BeginSteps}
 use Rattle.lab_core.specs.Recovery.{SettlesSome, some, within}
-use Rattle.lab_judge.specs.Tasks.{EndsNoMove}
+use Rattle.lab_tasks.specs.Tasks.{EndsNoMove}
 use Rattle.lab_core.specs.Tells.{IsAtRest}
 
 -- ---- lists of experiments

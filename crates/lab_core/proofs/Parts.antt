@@ -11,10 +11,10 @@ use Rattle.script_text.specs.declared.reply.Reply.{Reply}
 use Rattle.script_text.specs.declared.reply.Reply.TheVariants as replies
 use Rattle.swap_mgr.specs.Open.{HasOpen}
 use Rattle.swap_txn.specs.declared.live.Live.{Live}
-use Rattle.lab_judge.specs.OpenNames.{has_open}
+use Rattle.lab_tasks.specs.OpenNames.{has_open}
 use Rattle.lab_core.specs.InTurn.{IsPart, stuck_by_journal}
 use Rattle.lab_core.specs.Swapping.{IsSwapReply}
-use Rattle.lab_judge.proofs.Busy.{open_busy}
+use Rattle.lab_tasks.proofs.Busy.{open_busy}
 
 -- a reply that tells of no swap that has begun
 abbrev pub is_more : Reply → Bool

@@ -44,12 +44,12 @@ use Rattle.swap_turns.proofs.MovesAreSwaps.{moved_swaps}
 use Rattle.swap_turns.proofs.Telling.{if_some_is, if_told}
 use Rattle.lab_core.specs.Breaks.{Breaks, stopped, failed}
 use Rattle.lab_core.specs.Controller.{Control, WorksWith}
-use Rattle.lab_judge.specs.Judge.{Task, Append, Is}
+use Rattle.lab_tasks.specs.Tasks.{Task, Append, CanAppend}
+use Rattle.lab_judge.specs.Judge.{Is}
 use Rattle.lab_core.specs.LabSteps.{has_space, IfSpace, Performs, Replies, Behind, missed, restarted, AppendEnds, whole, broken, Appends, does}
 use Rattle.lab_core.specs.Obey.{start_of, Obeyed}
 use Rattle.lab_core.specs.Perform.{append_answer}
 use Rattle.lab_core.specs.Sessions.{OpenSwap, Setting, Session, Closed, Open, After, name_in}
-use Rattle.lab_judge.specs.Tasks.{CanAppend}
 use Rattle.lab_core.proofs.Obey.{RunsOn, as_open, calm_ends, closed_by, goes_on, halted, now_blames, replied, same_open, IsDone}
 use Rattle.lab_core.proofs.OpenSwaps.{since_later}
 use Rattle.lab_core.proofs.Others.{record_leaves}

@@ -35,7 +35,7 @@ use Rattle.script_text.specs.declared.reply.Reply.TheVariants as replies
 use Rattle.lab_core.specs.declared.fault.CoreFault.{CoreFault}
 use Rattle.lab_core.specs.Breaks.{StartsBehind}
 use Rattle.lab_core.specs.Controller.{Control, WorksWith}
-use Rattle.lab_judge.specs.Judge.{Task}
+use Rattle.lab_tasks.specs.Tasks.{Task}
 use Rattle.lab_core.specs.LabSteps.{done_reply, end_session, turn_reply, undone_end}
 use Rattle.lab_core.specs.Obey.{start_of, Obeyed}
 use Rattle.lab_core.specs.Sessions.{OpenSwap, Session, Closed, Open, HasRisenBy, blames_now, counted_from, ends_swap, name_in}

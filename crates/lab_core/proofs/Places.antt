@@ -27,11 +27,11 @@ use Rattle.swap_turns.specs.Swaps.{Swap as SwapOf, Moves}
 use Rattle.swap_turns.specs.Turning.{Outcome, More, TurnsBack, Ended, Stuck, Unwritten, Stopped as Halted, TurnSteps}
 use Rattle.swap_turns.specs.Whole.{SwapSteps, begun, unwritten, stopped as stopped_so}
 use Rattle.lab_core.specs.Breaks.{Breaks, stopped, failed, unanswered}
-use Rattle.lab_judge.specs.Judge.{Task, Tell, Append, Swap, BeginOnly, Turn, Finish, Recover}
+use Rattle.lab_tasks.specs.Tasks.{Task, Tell, Append, Swap, BeginOnly, Turn, Finish, Recover}
 use Rattle.lab_core.specs.LabSteps.{DoesBy, JudgedBeside, StepOf, Replies, AppendEnds, whole, broken, Appends, done_reply, undone_end, end_reply, turn_reply, IsAnswered, is_told, Swaps, BeginSteps, Begins as BeginsSwap, IfSpace, Does, Drills, is_planned, is_refused, wants_memory}
 use Rattle.lab_core.specs.Recovery.{Recovers, settled, broken_off}
 use Rattle.lab_core.specs.Sessions.{OpenSwap, Session, Setting, After, Terms, names_of}
-use Rattle.lab_judge.specs.OpenNames.{is_among, name_of}
+use Rattle.lab_tasks.specs.OpenNames.{is_among, name_of}
 use Rattle.lab_core.specs.Tells.{IsThere, is_in}
 use Rattle.lab_judge.proofs.Fits.{IsFit, fits, is_outer}
 use Rattle.lab_core.proofs.StepLaws.{Was, by_one, was, done, wanting, broke, drilled}

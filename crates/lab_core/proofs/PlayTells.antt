@@ -18,8 +18,9 @@ use Rattle.script_text.specs.declared.command.Command.TheVariants as commands
 use Rattle.swap_turns.specs.Legs.{Forth, Undo, Settling}
 use Rattle.swap_turns.specs.Swaps.{Swap as SwapOf}
 use Rattle.swap_turns.specs.Turning.{Outcome, More, TurnsBack, Ended, Stuck, Unwritten, Stopped as Halted}
-use Rattle.lab_judge.specs.Judge.{Swap, Task, asked, need_idle_in, need_in, refused}
-use Rattle.lab_judge.specs.Playing.{Playing}
+use Rattle.lab_tasks.specs.Tasks.{Swap, Task}
+use Rattle.lab_tasks.specs.Needs.{asked, need_idle_in, need_in, refused}
+use Rattle.lab_tasks.specs.Playing.{Playing}
 use Rattle.lab_judge.proofs.Fits.{is_outer}
 use Rattle.lab_core.specs.BatchLines.{there_in}
 use Rattle.lab_core.specs.Breaks.{Breaks, failed, stopped, unanswered}

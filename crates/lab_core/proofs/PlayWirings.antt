@@ -43,8 +43,10 @@ use Rattle.swap_turns.specs.Swaps.{Swap as SwapOf, Moves}
 use Rattle.swap_turns.specs.Turning.{Outcome, More, TurnsBack, Ended, Stuck, Unwritten, Stopped as Halted}
 use Rattle.swap_turns.specs.Whole.{SwapSteps, begun, unwritten, stopped as stopped_so}
 use Rattle.swap_turns.proofs.Finishing.{onward_swap}
-use Rattle.lab_judge.specs.Judge.{OrRefused, Task, asked, in_slot, judged_change, need_idle_in, need_meaning, refused, task_over}
-use Rattle.lab_judge.specs.Playing.{AreDue, JudgedChange, Playing, first_place, mapping_in, need_shape, need_shapes}
+use Rattle.lab_tasks.specs.Needs.{OrRefused, asked, need_idle_in, need_meaning, refused}
+use Rattle.lab_tasks.specs.Tasks.{Task}
+use Rattle.lab_tasks.specs.Mappings.{in_slot, judged_change, task_over}
+use Rattle.lab_tasks.specs.Playing.{AreDue, JudgedChange, Playing, first_place, mapping_in, need_shape, need_shapes}
 use Rattle.lab_judge.proofs.Fits.{is_outer}
 use Rattle.lab_core.specs.Commands.{LabStep, ground_by}
 use Rattle.lab_core.specs.LabSteps.{Does, IfSpace, IsAnswered, IsDoneBy, Replies, Swaps, does, done_reply, end_reply, end_session, is_told, no_memory, not_opened, opened, undone_end}

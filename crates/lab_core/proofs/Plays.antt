@@ -15,20 +15,20 @@ use Rattle.swap_txn.specs.declared.live.Live.{Live}
 use Rattle.lab_core.specs.declared.fault.CoreFault.{CoreFault}
 use Rattle.lab_core.specs.declared.fault.CoreFault.TheVariants as faults
 use Rattle.lab_core.specs.Controller.{Control, WorksWith}
-use Rattle.lab_judge.specs.OpenNames.{has_open}
+use Rattle.lab_tasks.specs.OpenNames.{has_open}
 use Rattle.lab_core.specs.InTurn.{IsPart, ObeysEvents}
-use Rattle.lab_judge.specs.Judge.{Is, Swap, Task}
+use Rattle.lab_tasks.specs.Tasks.{Swap, Task, IsMild}
+use Rattle.lab_judge.specs.Judge.{Is}
 use Rattle.lab_core.specs.Obey.{Obeyed, ObeysCommand}
-use Rattle.lab_judge.specs.Playing.{JudgedEventAt, JudgedPlayAt, Playing}
+use Rattle.lab_tasks.specs.Playing.{JudgedEventAt, JudgedPlayAt, Playing}
 use Rattle.lab_core.specs.PlayList.{JudgedEvent, JudgedPlay, events_in_turn}
 use Rattle.lab_core.specs.Sessions.{OpenSwap, name_in, names_of, open_at}
 use Rattle.lab_core.specs.Swapping.{TellsTask}
-use Rattle.lab_judge.specs.Tasks.{IsMild}
 use Rattle.lab_core.specs.Perform.{IsReady, or_any, swapped_by}
 use Rattle.lab_core.proofs.Events.{FitsPlain, event_here, plays_idle}
 use Rattle.lab_core.proofs.ListCommands.{list_listed, list_told, list_wanted}
 use Rattle.lab_core.proofs.Obey.{obeyed_by}
-use Rattle.lab_judge.proofs.Busy.{has_busy}
+use Rattle.lab_tasks.proofs.Busy.{has_busy}
 use Rattle.lab_core.proofs.OpenNames.{same_busy, same_count}
 use Rattle.lab_core.proofs.OpenSwaps.{open_at_none}
 use Rattle.lab_core.proofs.Parts.{calm_part, swap_part, swap_ready}

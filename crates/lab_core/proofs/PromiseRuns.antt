@@ -48,7 +48,10 @@ use Rattle.lab_ahead.specs.declared.batch.Run.{Run}
 use Rattle.lab_ahead.specs.declared.ends.End.{End}
 use Rattle.lab_ahead.specs.Ends.{left_for}
 use Rattle.lab_ahead.specs.Moments.{FitsAt, FitsFor}
-use Rattle.lab_judge.specs.Judge.{IsFound, OrRefused, Task, Tell, Swap, asked, in_slot, need_idle_out, need_mapping, refused, task_in}
+use Rattle.lab_tasks.specs.Needs.{OrRefused, asked, need_idle_out, refused}
+use Rattle.lab_tasks.specs.Tasks.{Task, Tell, Swap}
+use Rattle.lab_tasks.specs.Mappings.{in_slot, task_in}
+use Rattle.lab_judge.specs.Searches.{IsFound, need_mapping}
 use Rattle.lab_judge.specs.Serving.{JudgedBatch, IsTested, IsTestedAs, JudgedPlace, JudgedRunAt, JudgedTest, Serving, claimers_of, fits, full, span_of, waits}
 use Rattle.lab_judge.proofs.Fits.{is_outer}
 use Rattle.lab_core.specs.BatchList.{JudgedNextRun, behind_run, runs_in_turn, with_end}

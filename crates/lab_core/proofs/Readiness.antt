@@ -6,11 +6,12 @@ use Rattle.script_text.specs.declared.command.Command.{Command}
 use Rattle.swap_mgr.specs.Open.{HasOpen}
 use Rattle.swap_txn.specs.declared.live.Live.{Live}
 use Rattle.cost_rule.specs.declared.rule.RuleNumber.{RuleNumber}
-use Rattle.lab_judge.specs.OpenNames.{has_open, has_open_for, open_names, is_among, name_of}
-use Rattle.lab_judge.specs.Judge.{Task, Swap, BeginOnly, Turn, Finish, Judged}
+use Rattle.lab_tasks.specs.OpenNames.{has_open, has_open_for, open_names, is_among, name_of}
+use Rattle.lab_tasks.specs.Tasks.{Task, Swap, BeginOnly, Turn, Finish}
+use Rattle.lab_judge.specs.Judge.{Judged}
 use Rattle.lab_core.specs.Perform.{IsReady, swapped_by}
 use Rattle.lab_judge.proofs.Fits.{IsFit, fits}
-use Rattle.lab_judge.proofs.Busy.{busy_open, open_busy}
+use Rattle.lab_tasks.proofs.Busy.{busy_open, open_busy}
 
 -- IT IS READY where it is allowed
 module _ (swaps : List Live) (exp : Option (List ℕ)) where

@@ -34,7 +34,8 @@ use Rattle.recovery.specs.declared.all.Settled.{Settled}
 use Rattle.lab_core.specs.declared.fault.CoreFault.TheVariants as faults
 use Rattle.lab_core.specs.Breaks.{Breaks, StartsBehind, stopped, failed}
 use Rattle.lab_core.specs.Controller.{Control, WorksWith}
-use Rattle.lab_judge.specs.Judge.{Recover, Is}
+use Rattle.lab_tasks.specs.Tasks.{Recover}
+use Rattle.lab_judge.specs.Judge.{Is}
 use Rattle.lab_core.specs.LabSteps.{does}
 use Rattle.lab_core.specs.Obey.{start_of, Obeyed, between}
 use Rattle.lab_core.specs.Perform.{recover_answer}
@@ -42,7 +43,7 @@ use Rattle.lab_core.specs.Recovery.{settled, broken_off, within}
 use Rattle.lab_core.specs.Sessions.{OpenSwap, Closed, names_of}
 use Rattle.lab_core.proofs.Obey.{RunsOn, as_open, closed_by, false_true, goes_on, halted, same_open, wants, IsDone}
 use Rattle.lab_core.proofs.OpenSwaps.{Pair, since_later}
-use Rattle.lab_judge.proofs.Busy.{busy_has, has_busy}
+use Rattle.lab_tasks.proofs.Busy.{busy_has, has_busy}
 use Rattle.lab_core.proofs.OpenNames.{has_opens, opens_has}
 
 -- ---- busy names

@@ -16,7 +16,10 @@ use Rattle.script_text.specs.declared.reply.Reply.TheVariants as replies
 use Rattle.swap_turns.specs.Legs.{Forth, Undo, Settling}
 use Rattle.swap_turns.specs.Swaps.{Swap as SwapOf}
 use Rattle.swap_turns.specs.Turning.{Outcome, More, TurnsBack, Ended, Stuck, Unwritten, Stopped as Halted}
-use Rattle.lab_judge.specs.Judge.{Task, Tell, Append, Swap, BeginOnly, Turn, Finish, Recover, Judged, JudgedModify, JudgedSwapin, in_slot, judged_create_top, judged_delete, judged_modify_with, judged_ptop, judged_swapin_with, judged_swapout}
+use Rattle.lab_tasks.specs.Tasks.{Task, Tell, Append, Swap, BeginOnly, Turn, Finish, Recover}
+use Rattle.lab_tasks.specs.Mappings.{in_slot, judged_modify_with, judged_swapin_with}
+use Rattle.lab_judge.specs.Judge.{Judged, judged_create_top, judged_delete, judged_ptop, judged_swapout}
+use Rattle.lab_judge.specs.Searches.{JudgedModify, JudgedSwapin}
 use Rattle.lab_judge.specs.Serving.{JudgedBatch}
 use Rattle.lab_core.specs.Auditing.{Audits, no_lab, no_memory as audit_no_memory, told as audit_told, unread as audit_unread}
 use Rattle.lab_core.specs.Breaks.{Breaks, failed, stopped, unanswered}

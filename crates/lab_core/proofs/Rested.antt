@@ -17,7 +17,9 @@ use Rattle.recovery.specs.Due.{is_busy, swaps_of}
 use Rattle.recovery.specs.Settle.{is_ended, is_stuck}
 use Rattle.recovery.proofs.Resting.{differ_now, ended_one, left_after, left_first}
 use Rattle.lab_core.specs.Breaks.{Breaks, stopped, failed, unanswered}
-use Rattle.lab_judge.specs.Judge.{◌>>=◌, need_lab, Task, Recover, judged_recover}
+use Rattle.lab_tasks.specs.Needs.{◌>>=◌, need_lab}
+use Rattle.lab_tasks.specs.Tasks.{Task, Recover}
+use Rattle.lab_judge.specs.Judge.{judged_recover}
 use Rattle.lab_core.specs.LabSteps.{Does, Replies}
 use Rattle.lab_core.specs.Recovery.{HasRecovered, Opens, Recovers, settled, broken_off}
 use Rattle.lab_core.specs.Sessions.{OpenSwap, Session, Closed, Open, Setting, After, names_of, Terms}

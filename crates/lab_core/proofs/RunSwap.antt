@@ -54,12 +54,13 @@ use Rattle.script_text.specs.declared.reply.Reply.TheVariants as replies
 use Rattle.lab_core.specs.declared.fault.CoreFault.TheVariants as faults
 use Rattle.lab_core.specs.Breaks.{StartsBehind}
 use Rattle.lab_core.specs.Controller.{Control, WorksWith}
-use Rattle.lab_judge.specs.Judge.{Swap, BeginOnly, Is, begun_as}
+use Rattle.lab_tasks.specs.Tasks.{Swap, BeginOnly, IsSwapBy}
+use Rattle.lab_tasks.specs.Mappings.{begun_as}
+use Rattle.lab_judge.specs.Judge.{Is}
 use Rattle.lab_core.specs.LabSteps.{Begins, BeginSteps, IfSpace, Performs, Replies, Swaps, begun_at, does, end_reply, end_session, has_space, is_told, turn_reply}
 use Rattle.lab_core.specs.Obey.{Start, start_of, Obeyed}
 use Rattle.lab_core.specs.Sessions.{OpenSwap, Session, Setting, Closed, Open, After, IsSince, counted_from, devices_if, name_in}
 use Rattle.lab_core.specs.Swapping.{HasEndedIn, HasTried, IsBegunBy, IsOpened, IsPlanned, progress_answer, unopened_answer}
-use Rattle.lab_judge.specs.Tasks.{IsSwapBy}
 use Rattle.lab_core.proofs.EndOne.{cause_now, cause_since, end_answer, end_halts, end_one, end_works, over_reply, place}
 use Rattle.lab_core.proofs.Obey.{closed_by, false_true, goes_on, halted, same_open, IsDone}
 use Rattle.lab_core.proofs.OpenSwaps.{IsLast, Pair, Place, none_named, only_last, open_at_none, opened_more, running_has, since_later}

@@ -24,12 +24,14 @@ use Rattle.script_text.specs.declared.command.Command.{Command}
 use Rattle.script_text.specs.declared.command.Command.TheVariants as commands
 use Rattle.script_text.specs.declared.reply.Reply.{Reply}
 use Rattle.script_text.specs.declared.reply.Reply.TheVariants as replies
-use Rattle.lab_judge.specs.Judge.{◌>>=◌, begun_as, OrRefused, Task, Swap, Tell, asked, in_slot, need_idle_out, need_lab, need_mapping, need_meaning, refused, task_in}
+use Rattle.lab_tasks.specs.Needs.{◌>>=◌, OrRefused, asked, need_idle_out, need_lab, need_meaning, refused}
+use Rattle.lab_tasks.specs.Mappings.{begun_as, in_slot, task_in}
+use Rattle.lab_tasks.specs.Tasks.{Task, Swap, Tell, IsMild}
+use Rattle.lab_judge.specs.Searches.{need_mapping}
 use Rattle.lab_judge.specs.Serving.{IsTested, IsTestedAs, JudgedBatch, JudgedPlace, JudgedRunAt, Serving, claimers_of, first_run, fits, full, span_of, waits}
 use Rattle.lab_core.specs.BatchList.{JudgedNextRun, runs_in_turn}
 use Rattle.lab_core.specs.Sessions.{OpenSwap, Setting, names_of}
 use Rattle.lab_core.specs.LabSteps.{has_space}
-use Rattle.lab_judge.specs.Tasks.{IsMild}
 use Rattle.lab_judge.proofs.Fits.{IsFit, is_outer}
 use Rattle.lab_core.proofs.Listings.{IsAboutThese, IsFitFor, IsPlain}
 use Rattle.lab_core.proofs.Parts.{is_more}

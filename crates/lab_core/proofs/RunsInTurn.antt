@@ -23,7 +23,7 @@ use Rattle.lab_judge.specs.declared.run.Queue.{Queue}
 use Rattle.lab_core.specs.Coming.{Origin}
 use Rattle.lab_core.specs.Controller.{CanWork, Control, WorksWith}
 use Rattle.lab_core.specs.InTurn.{IsPart, is_in}
-use Rattle.lab_judge.specs.Judge.{Recover}
+use Rattle.lab_tasks.specs.Tasks.{Recover}
 use Rattle.lab_core.specs.LabSteps.{has_space}
 use Rattle.lab_core.specs.Obey.{Obeyed, start_of}
 use Rattle.lab_core.specs.Queues.{EndsRun, ObeysRun, ObeysRuns, ends_if, first_place, runs_from}
@@ -31,7 +31,7 @@ use Rattle.lab_core.specs.BatchList.{JudgedRun, behind_run, runs_in_turn, with_e
 use Rattle.lab_judge.specs.Serving.{Serving}
 use Rattle.lab_core.specs.Sessions.{OpenSwap, counted_from, devices_if, name_in, names_of, open_at}
 use Rattle.lab_core.proofs.Composing.{begins, comes_on, comes_shut, comes_to_stop, comes_to_want, finished, wants}
-use Rattle.lab_judge.proofs.Busy.{has_busy}
+use Rattle.lab_tasks.proofs.Busy.{has_busy}
 use Rattle.lab_core.proofs.OpenSwaps.{open_at_none}
 use Rattle.lab_core.proofs.Runs.{run_here}
 use Rattle.lab_core.proofs.HowFar.{HasComeTo, TellsAll, ComesToRun}

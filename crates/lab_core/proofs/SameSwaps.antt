@@ -13,15 +13,15 @@ use Rattle.script_text.specs.declared.command.Command.{Command}
 use Rattle.script_text.specs.declared.command.Command.TheVariants as commands
 use Rattle.script_text.specs.declared.reply.Reply.{Reply}
 use Rattle.swap_turns.specs.Turning.{Outcome, More, TurnsBack, Ended, Stuck, Unwritten, Stopped as Halted}
-use Rattle.lab_judge.specs.Judge.{Task, Tell, Append, Swap, BeginOnly, Turn, Finish, Recover}
+use Rattle.lab_tasks.specs.Tasks.{Task, Tell, Append, Swap, BeginOnly, Turn, Finish, Recover}
 use Rattle.lab_core.specs.LabSteps.{begun_at, turned_on}
 use Rattle.lab_core.specs.Commands.{is_about, LabStep}
 use Rattle.lab_core.specs.Sessions.{OpenSwap, Session, Open, Setting, After, name_in, names_of, open_at, Terms}
-use Rattle.lab_judge.specs.OpenNames.{name_of}
+use Rattle.lab_tasks.specs.OpenNames.{name_of}
 use Rattle.lab_core.specs.Tells.{busy_of, opens_of, settles}
 use Rattle.lab_core.proofs.OpenLaws.{IsNext, Leaves, at_turned, at_without, goes, stands}
 use Rattle.lab_core.proofs.OpenMoves.{beside_one}
-use Rattle.lab_judge.proofs.Busy.{has_busy}
+use Rattle.lab_tasks.proofs.Busy.{has_busy}
 use Rattle.lab_core.proofs.OpenSwaps.{open_at_none, open_at_one}
 use Rattle.lab_core.proofs.ListSteps.{batch_stays, named_so, all_stay}
 

@@ -17,9 +17,10 @@ use Rattle.swap_txn.specs.declared.live.Live.{Live}
 use Rattle.lab_core.specs.declared.fault.CoreFault.{CoreFault}
 use Rattle.lab_core.specs.declared.fault.CoreFault.TheVariants as faults
 use Rattle.lab_core.specs.Controller.{Control, WorksWith}
-use Rattle.lab_judge.specs.OpenNames.{has_open}
+use Rattle.lab_tasks.specs.OpenNames.{has_open}
 use Rattle.lab_core.specs.InTurn.{IsPart}
-use Rattle.lab_judge.specs.Judge.{Is, Swap, Task, Tell}
+use Rattle.lab_tasks.specs.Tasks.{Swap, Task, Tell, IsMild}
+use Rattle.lab_judge.specs.Judge.{Is}
 use Rattle.lab_core.specs.LabSteps.{has_space}
 use Rattle.lab_core.specs.Obey.{Obeyed, ObeysCommand, start_of}
 use Rattle.lab_core.specs.Queues.{EndsRun, ObeysRuns}
@@ -27,7 +28,6 @@ use Rattle.lab_judge.specs.Serving.{JudgedBatch, JudgedRunAt, first_run}
 use Rattle.lab_core.specs.BatchList.{JudgedRun, runs_in_turn}
 use Rattle.lab_core.specs.Sessions.{OpenSwap, names_of}
 use Rattle.lab_core.specs.Swapping.{TellsTask}
-use Rattle.lab_judge.specs.Tasks.{IsMild}
 use Rattle.lab_core.specs.Perform.{IsReady, or_any, swapped_by}
 use Rattle.lab_core.proofs.ListCommands.{list_listed, list_told, list_wanted}
 use Rattle.lab_core.proofs.Obey.{obeyed_by}

@@ -36,12 +36,14 @@ use Rattle.swap_turns.specs.Legs.{Forth, Undo, Settling}
 use Rattle.swap_turns.specs.Turning.{Outcome, More, TurnsBack, Ended, Stuck, Unwritten, Stopped as Halted}
 use Rattle.swap_turns.specs.Whole.{SwapSteps, begun, unwritten, stopped as stopped_so}
 use Rattle.lab_core.specs.Breaks.{Breaks, stopped, failed, unanswered}
-use Rattle.lab_judge.specs.Counts.{least_tags}
-use Rattle.lab_judge.specs.Judge.{◌>>=◌, Task, Swap, begun_as, in_slot, judged_mapping, judged_swapin_with, need_kept, subject_name}
+use Rattle.lab_tasks.specs.Counts.{least_tags}
+use Rattle.lab_tasks.specs.Needs.{◌>>=◌, need_kept, subject_name}
+use Rattle.lab_tasks.specs.Tasks.{Task, Swap}
+use Rattle.lab_tasks.specs.Mappings.{begun_as, in_slot, judged_mapping, judged_swapin_with}
 use Rattle.lab_core.specs.LabSteps.{DoesBy, Does, IsDoneBy, does, no_memory, opened, not_opened, StepOf, IfSpace, Replies, Swaps, BeginSteps, Begins, begun_at, JudgedBeside, IsAnswered, is_told, has_space, done_reply, end_reply, turn_reply, undone_end}
 use Rattle.lab_core.specs.Sessions.{OpenSwap, Session, Closed, Open, Setting, After, name_in, names_of, Terms}
-use Rattle.lab_judge.specs.OpenNames.{is_among}
-use Rattle.lab_judge.proofs.Busy.{busy_has}
+use Rattle.lab_tasks.specs.OpenNames.{is_among}
+use Rattle.lab_tasks.proofs.Busy.{busy_has}
 use Rattle.lab_core.specs.Tells.{AllMove, BeginsAt, IsFeasibleFor, Hinders, TellsBroken, opens_of, taken_reply}
 
 -- the reply tells that it was taken

@@ -36,12 +36,12 @@ use Rattle.swap_turns.specs.Whole.{SwapSteps, begun, unwritten, stopped as stopp
 use Rattle.swap_turns.proofs.Finishing.{onward_swap}
 use Rattle.swap_turns.proofs.Showing.{finish_shows, settles_show, swap_shows, turn_shows}
 use Rattle.cost_rule.specs.declared.rule.RuleNumber.{RuleNumber}
-use Rattle.lab_judge.specs.Judge.{Task, Tell, Append, Swap, BeginOnly, Turn, Finish, Recover}
+use Rattle.lab_tasks.specs.Tasks.{Task, Tell, Append, Swap, BeginOnly, Turn, Finish, Recover}
 use Rattle.lab_core.specs.LabSteps.{DoesBy, Replies, WantsMemory, AppendEnds, whole, broken, Appends, done_reply, undone_end, end_reply, turn_reply, IsAnswered, is_told, Swaps, BeginSteps, Begins as BeginsSwap, Turns, EndsSwap, has_space, IfSpace, Does, IsDoneBy, does, no_memory, FromClosed, opened, not_opened, Drills, is_planned, is_refused, wants_memory, StepOf, IsThis, JudgedBeside}
 use Rattle.lab_core.specs.Breaks.{Breaks, StartsBehind, stopped, failed, unanswered}
 use Rattle.lab_core.specs.Recovery.{BreaksOpening, OpensInPart, reading, settling, shifting, Recovers, settled, broken_off}
 use Rattle.lab_core.specs.Sessions.{OpenSwap, Session, Closed, Open, Setting, After, names_of, Terms}
-use Rattle.lab_judge.specs.OpenNames.{is_among, name_of}
+use Rattle.lab_tasks.specs.OpenNames.{is_among, name_of}
 use Rattle.lab_core.specs.Tells.{BeginsAt, GoBy, IsAtRest, IsNoSwap, TellsBroken, TellsLab, opens_of, settles}
 use Rattle.lab_judge.proofs.Fits.{IsFit, fits}
 use Rattle.lab_core.proofs.TasksApart.{IsTaskApart, task_apart}

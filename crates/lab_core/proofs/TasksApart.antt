@@ -8,8 +8,8 @@ use Rattle.records_model.specs.Labs.{LabState, Move, Says}
 use Rattle.lab_state.specs.Texts.{the_texts}
 use Rattle.script_text.specs.declared.command.Command.{Command}
 use Rattle.script_text.specs.declared.command.Command.TheVariants as commands
-use Rattle.lab_judge.specs.Judge.{Task, Tell, Append, Swap, BeginOnly, Turn, Finish, Recover}
-use Rattle.lab_judge.specs.OpenNames.{name_of}
+use Rattle.lab_tasks.specs.Tasks.{Task, Tell, Append, Swap, BeginOnly, Turn, Finish, Recover}
+use Rattle.lab_tasks.specs.OpenNames.{name_of}
 use Rattle.lab_core.proofs.Others.{IsApart, IsSpared}
 use Rattle.lab_judge.proofs.Fits.{IsFit, IsOwn}
 

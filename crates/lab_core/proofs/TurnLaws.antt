@@ -26,7 +26,7 @@ use Rattle.swap_turns.specs.Swaps.{Swap as SwapOf}
 use Rattle.swap_turns.specs.Turning.{Outcome, More, TurnsBack, Ended, Stuck, Unwritten, Stopped as Halted, IsOneAtMost, IsOneCommand, TurnSteps}
 use Rattle.swap_turns.proofs.Finishing.{onward_swap}
 use Rattle.lab_core.specs.Breaks.{StartsBehind}
-use Rattle.lab_judge.specs.Judge.{Turn, Finish}
+use Rattle.lab_tasks.specs.Tasks.{Turn, Finish}
 use Rattle.lab_core.specs.LabSteps.{IsAnswered, is_told, done_reply, undone_end, end_reply, turn_reply, Turns, Drills, is_planned, is_refused, wants_memory}
 use Rattle.lab_core.specs.Sessions.{OpenSwap, Session, Closed, Open, Setting, After, Terms}
 use Rattle.lab_core.specs.Tells.{IsTurn, sends, appends, SendsOne, TellsEnd, has_journal_step, is_stopped}

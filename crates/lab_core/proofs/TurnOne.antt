@@ -20,7 +20,8 @@ use Rattle.swap_mgr.specs.declared.progress.Progress.{Progress}
 use Rattle.script_text.specs.declared.reply.Reply.{Reply}
 use Rattle.lab_core.specs.Breaks.{StartsBehind}
 use Rattle.lab_core.specs.Controller.{Control, WorksWith}
-use Rattle.lab_judge.specs.Judge.{Turn, Is}
+use Rattle.lab_tasks.specs.Tasks.{Turn}
+use Rattle.lab_judge.specs.Judge.{Is}
 use Rattle.lab_core.specs.LabSteps.{IsOneOf, does, end_session, is_told, turn_reply, turned_on}
 use Rattle.lab_core.specs.Obey.{start_of, Obeyed}
 use Rattle.lab_core.specs.Sessions.{OpenSwap, Session, HasRisenBy, IsSince, counted_from, devices_if, name_in, open_at}

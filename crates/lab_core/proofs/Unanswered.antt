@@ -48,7 +48,7 @@ use Rattle.lab_core.specs.Moments.{trace_in}
 use Rattle.lab_core.specs.Obey.{AnswersBy, Doing, ObeysCommand, Wanting, does_command, wants_of_command}
 use Rattle.lab_core.specs.Sessions as sessions
 use Rattle.lab_core.specs.Sessions.{blames_now, name_in, open_by}
-use Rattle.lab_judge.specs.Tasks.{tells_end}
+use Rattle.lab_tasks.specs.Tasks.{tells_end}
 use Rattle.lab_core.proofs.Obey.{as_open, calm_ends, false_true, in_trace, same_open}
 use Rattle.lab_core.proofs.OpenSwaps.{risen_later}
 

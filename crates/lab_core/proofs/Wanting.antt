@@ -15,7 +15,7 @@ use Rattle.lab_core.specs.LabSteps.{JudgedBeside}
 use Rattle.lab_core.specs.Lists.{between, listed, no_memory, undone, wanting}
 use Rattle.lab_core.specs.Obey.{Obeyed, ObeysCommand, WantsIn, does_command, start_of, wants_of_command}
 use Rattle.lab_core.specs.Sessions.{OpenSwap, shut_by}
-use Rattle.lab_judge.specs.OpenNames.{name_of}
+use Rattle.lab_tasks.specs.OpenNames.{name_of}
 use Rattle.lab_core.proofs.Obey.{wants_done}
 
 module _ (rule : RuleNumber) (devices : ℕ) (c : Control) (opens : List OpenSwap) (trace : Option (List Event)) (own : List Event) (lab : LabState) (to : List OpenSwap) where

@@ -14,7 +14,7 @@ use Rattle.lab_ahead.specs.declared.ends.End.{End}
 use Rattle.script_text.specs.Replies.{served_of}
 use Rattle.script_text.specs.declared.reply.Reply.{Reply}
 use Rattle.script_text.specs.declared.reply.Reply.TheVariants as replies
-use Rattle.lab_judge.specs.Judge.{Task}
+use Rattle.lab_tasks.specs.Tasks.{Task}
 use Rattle.lab_core.specs.LabSteps.{has_space}
 use Rattle.lab_core.specs.Lists.{Listing}
 use Rattle.lab_core.specs.Sessions.{OpenSwap, names_of}

@@ -15,7 +15,7 @@ use Rattle.lab_core.specs.PlayList.{JudgedPlay, events_in_turn}
 use Rattle.lab_judge.specs.Serving.{JudgedBatch}
 use Rattle.lab_core.specs.BatchList.{has_run, runs_in_turn}
 use Rattle.lab_core.specs.Sessions.{OpenSwap, Session, Setting, After, Terms}
-use Rattle.lab_judge.specs.OpenNames.{name_of}
+use Rattle.lab_tasks.specs.OpenNames.{name_of}
 use Rattle.lab_ahead.specs.Batches.{batch_of_text}
 
 -- THE COMMAND IS ABOUT that experiment: it names it, or a run of its text does

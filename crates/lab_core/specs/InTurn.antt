@@ -15,7 +15,7 @@ use Rattle.lab_core.specs.Coming.{AllDone, AllWants, Origin}
 use Rattle.lab_core.specs.Controller.{Control, WorksWith}
 use Rattle.lab_core.specs.Obey.{Obeyed, Obeys}
 use Rattle.lab_core.specs.PlayList.{JudgedEvent, events_in_turn}
-use Rattle.lab_judge.specs.Playing.{Playing}
+use Rattle.lab_tasks.specs.Playing.{Playing}
 use Rattle.lab_core.specs.Sessions.{OpenSwap}
 
 -- THE REPLY TO AN EVENT lets the next one come; begins no swap that stays open, and closes the controller only where the last record can't be written

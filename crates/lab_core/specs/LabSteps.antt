@@ -30,9 +30,10 @@ use Rattle.swap_turns.specs.Turning.{Outcome, More, TurnsBack, Ended, Stuck, Unw
 use Rattle.swap_turns.specs.Whole.{SwapSteps}
 use Rattle.cost_rule.specs.declared.rule.RuleNumber.{RuleNumber}
 use Rattle.lab_core.specs.Sessions.{OpenSwap, Session, Closed, Open, Terms, Setting, After, name_in, names_of}
-use Rattle.lab_judge.specs.OpenNames.{is_among, name_of}
+use Rattle.lab_tasks.specs.OpenNames.{is_among, name_of}
 use Rattle.lab_core.specs.Breaks.{Breaks, StartsBehind}
-use Rattle.lab_judge.specs.Judge.{Task, Tell, Append, Swap, BeginOnly, Turn, Finish, Recover, Judged}
+use Rattle.lab_tasks.specs.Tasks.{Task, Tell, Append, Swap, BeginOnly, Turn, Finish, Recover}
+use Rattle.lab_judge.specs.Judge.{Judged}
 use Rattle.lab_core.specs.Recovery.{Opens, BreaksOpening, Recovers}
 
 -- THE COMMAND'S OWN STEPS, over an open controller with those open swaps

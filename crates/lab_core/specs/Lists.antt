@@ -4,7 +4,7 @@ use Rattle.plant.specs.Events.{Event}
 use Rattle.records_model.specs.Labs.{LabState}
 use Rattle.script_text.specs.declared.reply.Reply.{Reply}
 use Rattle.script_text.specs.declared.reply.Reply.TheVariants as replies
-use Rattle.lab_judge.specs.Judge.{Task}
+use Rattle.lab_tasks.specs.Tasks.{Task}
 use Rattle.lab_core.specs.LabSteps.{IsDoneBy, Replies, WantsMemory}
 use Rattle.lab_core.specs.Moments.{IsLengthBehind}
 use Rattle.lab_core.specs.Sessions.{OpenSwap, Setting, After, open_by, shut_by}

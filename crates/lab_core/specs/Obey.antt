@@ -18,7 +18,7 @@ use Rattle.script_text.specs.declared.reply.Reply.TheVariants as replies
 use Rattle.lab_core.specs.declared.fault.CoreFault.{CoreFault}
 use Rattle.lab_core.specs.declared.fault.CoreFault.TheVariants as faults
 use Rattle.lab_core.specs.Controller.{Control, WorksWith}
-use Rattle.lab_judge.specs.Judge.{Task, Recover}
+use Rattle.lab_tasks.specs.Tasks.{Task, Recover}
 use Rattle.lab_core.specs.Commands.{DoesCommand, ground_by}
 use Rattle.lab_core.specs.LabSteps.{IsDoneBy, JudgedBeside}
 use Rattle.lab_core.specs.Lists.{WantsInList}
@@ -28,7 +28,7 @@ use Rattle.lab_core.specs.Recovery.{SettlesFirst}
 use Rattle.lab_judge.specs.Serving.{JudgedBatch}
 use Rattle.lab_core.specs.BatchList.{runs_in_turn}
 use Rattle.lab_core.specs.Sessions.{OpenSwap, Setting, After, AreOpenedBy, blames_now, counted_from, names_of, open_by, shut_by}
-use Rattle.lab_judge.specs.OpenNames.{name_of}
+use Rattle.lab_tasks.specs.OpenNames.{name_of}
 
 -- WHERE A COMMAND BEGINS: what its journal is judged by, the count of device faults at which a swap of it is opened, the lab, and the open swaps
 pub record Start : Type 0 where

@@ -11,7 +11,7 @@ use Rattle.lab_core.specs.declared.fault.CoreFault.{CoreFault}
 use Rattle.lab_core.specs.declared.fault.CoreFault.TheVariants as faults
 use Rattle.swap_mgr.specs.Open.{HasOpen}
 use Rattle.swap_txn.specs.declared.live.Live.{Live}
-use Rattle.lab_judge.specs.Judge.{Task, Swap, BeginOnly, Turn, Finish}
+use Rattle.lab_tasks.specs.Tasks.{Task, Swap, BeginOnly, Turn, Finish}
 
 -- the reply, `down` where a call of the disk failed, or nothing where the plant stopped
 abbrev pub append_answer : Reply → Result (Unit {0}) AppendFault → Result Reply CoreFault

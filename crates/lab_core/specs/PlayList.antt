@@ -7,10 +7,10 @@ use Rattle.ns_events.specs.declared.event.Event.{Event as LinkEvent}
 use Rattle.script_text.specs.Replies.{played_of}
 use Rattle.script_text.specs.declared.reply.Reply.{Reply}
 use Rattle.script_text.specs.declared.reply.Reply.TheVariants as replies
-use Rattle.lab_judge.specs.Judge.{Task}
+use Rattle.lab_tasks.specs.Tasks.{Task}
 use Rattle.lab_core.specs.Sessions.{OpenSwap, names_of}
 use Rattle.lab_core.specs.Lists.{Listing}
-use Rattle.lab_judge.specs.Playing.{JudgedEventAt, JudgedPlayAt, Playing}
+use Rattle.lab_tasks.specs.Playing.{JudgedEventAt, JudgedPlayAt, Playing}
 
 module _ (exp : List ℕ) where
   -- what is judged of an event, and of the first of those that are left

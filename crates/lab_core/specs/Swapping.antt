@@ -28,7 +28,9 @@ use Rattle.script_text.specs.declared.reply.Reply.TheVariants.{In, Out, More, Tr
 use Rattle.lab_core.specs.declared.fault.CoreFault.{CoreFault}
 use Rattle.lab_core.specs.declared.fault.CoreFault.TheVariants as faults
 use Rattle.lab_core.specs.Controller.{Control, WorksWith}
-use Rattle.lab_judge.specs.Judge.{Task, Swap, Tell, Is, begun_as}
+use Rattle.lab_tasks.specs.Tasks.{Task, Swap, Tell}
+use Rattle.lab_tasks.specs.Mappings.{begun_as}
+use Rattle.lab_judge.specs.Judge.{Is}
 use Rattle.lab_core.specs.LabSteps.{begun_at, has_space}
 use Rattle.lab_core.specs.Obey.{Obeyed, start_of}
 use Rattle.lab_core.specs.Sessions.{OpenSwap}

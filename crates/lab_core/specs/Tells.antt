@@ -32,7 +32,7 @@ use Rattle.script_text.specs.declared.reply.FailedEnd.TheVariants as ends
 use Rattle.script_text.specs.declared.reply.Reply.{Reply}
 use Rattle.script_text.specs.declared.reply.Reply.TheVariants.{Created, Deleted, In, Lab as LabIs, Out as IsOutside, More, Played, Recovered, Served, Trouble, Failed, FullSwaps, FullJournal, Down, Stopped, Planned, NoDrill, Unread}
 use Rattle.lab_base.specs.declared.what.What.TheVariants as whats
-use Rattle.lab_judge.specs.Judge.{Task, Swap, BeginOnly, Turn, Finish, Recover}
+use Rattle.lab_tasks.specs.Tasks.{Task, Swap, BeginOnly, Turn, Finish, Recover}
 use Rattle.lab_core.specs.LabSteps.{begun_at}
 use Rattle.lab_core.specs.Recovery.{Opens}
 use Rattle.lab_core.specs.Sessions.{OpenSwap, Session, Closed, Open, names_of, open_at}

@@ -9,12 +9,12 @@ ghost use Rattle.script_text.specs.declared.command.Command.TheVariants as comma
 ghost use Rattle.lab_core.specs.Controller.{CanWork, WorksWith};
 ghost use Rattle.lab_core.specs.InTurn.{EndsEvent, IsPart, ObeysEvent, ObeysEvents, TellsWhole, is_in, stuck_by_journal};
 ghost use Rattle.lab_core.specs.Obey.{ObeysCommand};
-ghost use Rattle.lab_judge.specs.Playing.{first_place};
+ghost use Rattle.lab_tasks.specs.Playing.{first_place};
 ghost use Rattle.lab_core.specs.Sessions.{OpenSwap, open_at};
 
 use crate::{Controller, CoreFault};
 use lab_base::{Memory, Name, What};
-use lab_judge::{Present, Refusal, Span, judge_event, judge_play};
+use lab_tasks::{Present, Refusal, Span, judge_event, judge_play};
 use ns_events::Event;
 use plant::Plant;
 use script_text::{FailedEnd, Reply, played_all, played_until};

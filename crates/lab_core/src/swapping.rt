@@ -18,14 +18,14 @@ ghost use Rattle.swap_mgr.specs.Turns.{IsStop};
 ghost use Rattle.lab_state.specs.Changes.{after, CanEnter};
 ghost use Rattle.lab_state.specs.Texts.{the_texts};
 ghost use Rattle.lab_core.specs.Swapping.{HasEndedIn, HasTried, HasTurnedIn, IsPlanned, progress_answer, reply_of_done, reply_of_over, undone_by, unopened_answer};
-ghost use Rattle.lab_judge.specs.Tasks.{IsBegin, MayFollow};
+ghost use Rattle.lab_tasks.specs.Tasks.{IsBegin, MayFollow};
 
 use crate::perform::prepare;
 use crate::{Controller, CoreFault};
 use journal_disk::Journal;
 use journal_rec::Record;
 use lab_base::{Memory, Name};
-use lab_judge::NewSwap;
+use lab_tasks::NewSwap;
 use lab_state::{LabState, Prepared};
 use plant::Plant;
 use recovery::end_move;

@@ -15,7 +15,7 @@ use Rattle.plant.specs.Told.{with_mark}
 use Rattle.lab_core.specs.Controller.{Control}
 use Rattle.lab_core.specs.Breaks.{unanswered}
 use Rattle.lab_core.specs.Sessions.{Session, Closed, Open, Terms}
-use Rattle.lab_judge.specs.OpenNames.{name_of}
+use Rattle.lab_tasks.specs.OpenNames.{name_of}
 use Rattle.lab_core.specs.Tells.{opens_of}
 use Rattle.lab_top.specs.declared.command.CommandFault.{CommandFault}
 use Rattle.lab_top.specs.declared.command.CommandFault.TheVariants as faults

@@ -24,7 +24,7 @@ use Rattle.lab_core.specs.Commands.{DoesCommand}
 use Rattle.lab_core.specs.LabSteps.{Drills, StepOf, is_planned, is_refused, wants_memory}
 use Rattle.lab_core.specs.Moments.{AllStandFor, IsLabAt, IsLengthAt, trace_in, with_more}
 use Rattle.lab_core.specs.Sessions.{OpenSwap, Session, Closed, Open, AreOpenedBy, IsSince, ends_swap, name_in, Terms}
-use Rattle.lab_judge.specs.OpenNames.{name_of}
+use Rattle.lab_tasks.specs.OpenNames.{name_of}
 use Rattle.lab_core.specs.Tells.{opens_of}
 use Rattle.lab_top.specs.declared.command.CommandFault.{CommandFault}
 use Rattle.lab_top.specs.declared.command.CommandFault.TheVariants as faults

@@ -11,7 +11,7 @@ use Rattle.script_text.specs.declared.command.Command.{Command}
 use Rattle.script_text.specs.declared.command.Command.TheVariants.{SwapinWith}
 use Rattle.script_text.specs.declared.reply.Reply.{Reply}
 use Rattle.script_text.specs.declared.reply.Reply.TheVariants as replies
-use Rattle.lab_judge.specs.Judge.{Task}
+use Rattle.lab_tasks.specs.Tasks.{Task}
 use Rattle.lab_core.specs.Commands.{LabStep, is_about}
 use Rattle.lab_core.specs.Moments.{trace_in, with_more}
 use Rattle.lab_core.specs.Sessions.{OpenSwap, Session, Closed, Open, Setting, After, names_of, open_at, Terms}

@@ -26,7 +26,7 @@ use Rattle.lab_core.specs.Breaks.{Breaks, failed, unanswered}
 use Rattle.lab_core.specs.Controller.{Control, Works, WorksWith}
 use Rattle.lab_core.specs.Opening.{OpenEnds, OpenSteps, OpenTold}
 use Rattle.lab_core.specs.Sessions.{OpenSwap, Session, Closed, Open, AreOpenedBy, counted_from, Terms}
-use Rattle.lab_judge.specs.OpenNames.{name_of}
+use Rattle.lab_tasks.specs.OpenNames.{name_of}
 use Rattle.lab_core.specs.Tells.{opens_of, TellsBroken}
 use Rattle.lab_top.specs.declared.command.CommandFault.{CommandFault}
 use Rattle.lab_top.specs.declared.command.CommandFault.TheVariants as command_faults

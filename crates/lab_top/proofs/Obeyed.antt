@@ -23,12 +23,12 @@ use Rattle.script_text.specs.Replies.{closes}
 use Rattle.lab_core.specs.declared.fault.CoreFault.{CoreFault}
 use Rattle.lab_core.specs.declared.fault.CoreFault.TheVariants as faults
 use Rattle.lab_core.specs.Controller.{Control}
-use Rattle.lab_judge.specs.Judge.{Task, Recover}
+use Rattle.lab_tasks.specs.Tasks.{Task, Recover}
 use Rattle.lab_core.specs.LabSteps.{JudgedBeside, StepOf}
 use Rattle.lab_core.specs.Lists.{Ground, between as playing, undone as nothing_played}
 use Rattle.lab_core.specs.Obey.{AnswersBy, Doing, ObeysCommand, StepsBy, WantsIn, between, does_command, start_of, undone, wants_of_command}
 use Rattle.lab_core.specs.Sessions.{OpenSwap, Session, Closed, Open, AreOpenedBy, blames_now, names_of, Terms, open_by}
-use Rattle.lab_judge.specs.OpenNames.{is_among, name_of}
+use Rattle.lab_tasks.specs.OpenNames.{is_among, name_of}
 use Rattle.lab_core.specs.Tells.{opens_of}
 use Rattle.lab_top.specs.declared.command.CommandFault.{CommandFault}
 use Rattle.lab_judge.proofs.Fits.{fits}

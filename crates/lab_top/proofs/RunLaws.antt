@@ -31,7 +31,7 @@ use Rattle.script_text.specs.declared.command.Command.TheVariants.{SwapinWith, R
 use Rattle.script_text.specs.declared.reply.Reply.{Reply}
 use Rattle.script_text.specs.declared.reply.Reply.TheVariants as replies
 use Rattle.script_text.specs.declared.reply.Reply.TheVariants.{Recovered}
-use Rattle.lab_judge.specs.Judge.{Task}
+use Rattle.lab_tasks.specs.Tasks.{Task}
 use Rattle.lab_core.specs.Breaks.{Breaks}
 use Rattle.lab_core.specs.Commands.{is_about, LabStep}
 use Rattle.lab_core.specs.Moments.{IsLabAt, IsNoJournal, StandForLab, IsLabOfImage, AllStandFor}

@@ -21,13 +21,13 @@ use Rattle.script_text.specs.declared.command.Command.{Command}
 use Rattle.script_text.specs.declared.command.Command.TheVariants as commands
 use Rattle.script_text.specs.declared.reply.Reply.{Reply}
 use Rattle.script_text.specs.Replies.{closes}
-use Rattle.lab_judge.specs.Judge.{Task, Turn}
+use Rattle.lab_tasks.specs.Tasks.{Task, Turn}
 use Rattle.lab_model.specs.Leavings.{SameFor}
 use Rattle.lab_core.specs.Moments.{IsLabAt}
 use Rattle.lab_core.specs.LabSteps.{Does, IsDoneBy, JudgedBeside, does, no_memory, not_opened, opened}
 use Rattle.lab_core.specs.Commands.{LabStep, is_about}
 use Rattle.lab_core.specs.Sessions.{OpenSwap, Session, Closed, Open, Setting, After, name_in, names_of, open_at, Terms}
-use Rattle.lab_judge.specs.OpenNames.{is_among}
+use Rattle.lab_tasks.specs.OpenNames.{is_among}
 use Rattle.lab_core.specs.Tells.{IsTurn, IsTurnOf, SendsOne, busy_of, is_stopped, opens_of, settles}
 use Rattle.lab_core.proofs.OpenLaws.{Leaves, names_differ, others_as_they_were, they_are_few}
 use Rattle.lab_core.proofs.ListSteps.{about_not, all_leave}

@@ -28,7 +28,7 @@ use Rattle.lab_core.specs.Commands.{DoesCommand, LabStep}
 use Rattle.lab_core.specs.Moments.{IsLabAt, trace_in, with_more}
 use Rattle.lab_core.specs.Recovery.{Opens}
 use Rattle.lab_core.specs.Sessions.{OpenSwap, Session, Closed, Open, Setting, After, AreOpenedBy, counted_from, Terms}
-use Rattle.lab_judge.specs.OpenNames.{name_of}
+use Rattle.lab_tasks.specs.OpenNames.{name_of}
 use Rattle.lab_core.specs.Tells.{opens_of}
 use Rattle.lab_top.specs.declared.command.CommandFault.{CommandFault}
 use Rattle.lab_top.specs.declared.command.CommandFault.TheVariants.{Memory, WriteFault, JournalBad}

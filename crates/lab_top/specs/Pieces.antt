@@ -40,11 +40,11 @@ use Rattle.lab_core.specs.Said.{IsAsSaid}
 use Rattle.lab_core.specs.Tells.{BeginsAt, is_in, opens_of, TellsBroken}
 use Rattle.lab_core.specs.Lists.{Ground, Past}
 use Rattle.lab_core.specs.PlayList.{JudgedPlay, events_in_turn}
-use Rattle.lab_judge.specs.Playing.{Playing}
+use Rattle.lab_tasks.specs.Playing.{Playing}
 use Rattle.lab_judge.specs.Serving.{JudgedBatch, Serving}
 use Rattle.lab_core.specs.BatchList.{runs_in_turn}
 use Rattle.lab_core.specs.Sessions.{OpenSwap, Session, Closed, Open, AreOpenedBy, blames_now, counted_from, names_of, open_at, Terms}
-use Rattle.lab_judge.specs.OpenNames.{name_of}
+use Rattle.lab_tasks.specs.OpenNames.{name_of}
 
 -- A PIECE: a command, the counts of faults at its mark, the session before and after it, the steps of its opening and its own, and its reply, if it was
 -- answered

@@ -1,7 +1,7 @@
 use Rattle.std.proofs.Common.{Err, Ok, refl}
 use Rattle.script_text.specs.Drills.{drill_of}
 use Rattle.script_text.specs.declared.reply.Reply.TheVariants.{Unread}
-use Rattle.lab_judge.specs.Judge.{Tell, Swap}
+use Rattle.lab_tasks.specs.Tasks.{Tell, Swap}
 use Rattle.lab_judge.proofs.Judgements.{judged_once}
 use Rattle.lab_core.proofs.BatchLines.{batch_tells}
 use Rattle.lab_core.proofs.PlayTells.{play_tells}

@@ -1,7 +1,7 @@
 use Rattle.std.proofs.Common.{Ok, ◌≤◌, ⊎_elim, ap, length, subst, sym}
 use Rattle.lab_base.specs.Lists.{AllDiffer}
 use Rattle.script_text.specs.Drills.{drill_of}
-use Rattle.lab_judge.specs.Judge.{BeginOnly, Turn, Finish}
+use Rattle.lab_tasks.specs.Tasks.{BeginOnly, Turn, Finish}
 use Rattle.lab_core.specs.Sessions.{Open, names_of, open_at}
 use Rattle.lab_core.proofs.OtherWorlds.{others_spared}
 use Rattle.lab_core.proofs.ListSteps.{about_not, all_leave, all_move}

@@ -7,7 +7,8 @@ use Rattle.script_text.specs.declared.reply.Reply.{Reply}
 use Rattle.lab_state.specs.Changes.{after}
 use Rattle.lab_core.specs.declared.fault.CoreFault.{CoreFault}
 use Rattle.lab_core.specs.Controller.{Control, control}
-use Rattle.lab_judge.specs.Judge.{Append, Is}
+use Rattle.lab_tasks.specs.Tasks.{Append}
+use Rattle.lab_judge.specs.Judge.{Is}
 use Rattle.lab_core.specs.Obey.{start_of, Obeyed}
 use Rattle.lab_core.proofs.Obey.{wanted}
 use Rattle.lab_core.proofs.PerformAppend.{is_short, full, no_space, left, stands_of}

@@ -10,7 +10,8 @@ use Rattle.swap_txn.specs.States.{View}
 use Rattle.swap_turns.specs.Running.{Working}
 use Rattle.swap_mgr.specs.Managing.{HasOpened, IsAfterOpening}
 use Rattle.lab_core.specs.Controller.{Control, control}
-use Rattle.lab_judge.specs.Judge.{Swap, begun_as}
+use Rattle.lab_tasks.specs.Tasks.{Swap}
+use Rattle.lab_tasks.specs.Mappings.{begun_as}
 use Rattle.lab_core.specs.Obey.{start_of}
 use Rattle.lab_core.specs.Swapping.{IsPlanned}
 use Rattle.lab_core.proofs.Obey.{wanted}

@@ -5,9 +5,9 @@ use Rattle.lab_judge.specs.Judge.{is_unjudged}
 use Rattle.lab_core.specs.declared.fault.CoreFault.TheVariants as faults
 use Rattle.lab_core.specs.Controller.{Control, WorksWith, control}
 use Rattle.lab_core.specs.LabSteps.{JudgedBeside}
-use Rattle.lab_judge.specs.OpenNames.{name_of}
+use Rattle.lab_tasks.specs.OpenNames.{name_of}
 use Rattle.lab_core.specs.Perform.{IsReady}
-use Rattle.lab_judge.specs.Tasks.{CanDo, task_of}
+use Rattle.lab_tasks.specs.Tasks.{CanDo, task_of}
 use Rattle.lab_core.proofs.Obey.{refuses, wanted}
 use Rattle.lab_core.proofs.ObeyJudged.{done_beside, refused_beside}
 use Rattle.lab_core.proofs.Readiness.{ready_of_judged}

@@ -1,5 +1,6 @@
 use Rattle.std.proofs.Common.{Ok, refl}
-use Rattle.lab_judge.specs.Judge.{Is, Tell}
+use Rattle.lab_tasks.specs.Tasks.{Tell}
+use Rattle.lab_judge.specs.Judge.{Is}
 use Rattle.lab_core.specs.LabSteps.{does}
 use Rattle.lab_core.proofs.Obey.{replied}
 use Rattle.lab_core.proofs.controller.Controller.perform.Goals as goal

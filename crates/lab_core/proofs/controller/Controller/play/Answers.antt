@@ -2,8 +2,8 @@ use Rattle.std.proofs.Common.{List, Ok, sym, subst}
 use Rattle.ns_events.specs.declared.event.Event.{Event as LinkEvent}
 use Rattle.lab_core.specs.Controller.{Control, WorksWith, control}
 use Rattle.lab_core.specs.InTurn.{ObeysEvents}
-use Rattle.lab_judge.specs.JudgePlay.{place_of}
-use Rattle.lab_judge.specs.Playing.{first_place}
+use Rattle.lab_tasks.specs.JudgePlay.{place_of}
+use Rattle.lab_tasks.specs.Playing.{first_place}
 use Rattle.lab_core.proofs.Plays.{play_beside, play_listed, play_refused, play_wanted}
 use Rattle.lab_core.proofs.controller.Controller.play.Goals as goal
 

@@ -2,7 +2,7 @@ use Rattle.std.proofs.Common.{sym, subst}
 use Rattle.lab_core.specs.Controller.{Control, WorksWith, control}
 use Rattle.lab_core.specs.PlayList.{JudgedEvent}
 use Rattle.lab_core.specs.Perform.{IsReady}
-use Rattle.lab_judge.specs.Tasks.{CanDo, task_of}
+use Rattle.lab_tasks.specs.Tasks.{CanDo, task_of}
 use Rattle.lab_core.proofs.Obey.{refuses, wanted}
 use Rattle.lab_core.proofs.Plays.{event_done, event_part, event_ready, event_refused, refusal_part}
 use Rattle.lab_core.proofs.controller.Controller.play_event.Goals as goal

@@ -3,9 +3,9 @@ use Rattle.std.proofs.lemmas.Result.{err_from_is_err_and}
 use Rattle.lab_base.proofs.Lists.{item_at}
 use Rattle.lab_base.proofs.Members.{Has-at}
 use Rattle.ns_events.specs.declared.event.Event.{Event as LinkEvent}
-use Rattle.lab_judge.specs.Playing.{first_place}
+use Rattle.lab_tasks.specs.Playing.{first_place}
 use Rattle.lab_core.proofs.InTurn.{all_done, ends_there, fails_there, goes_further, going, starts, works_further}
-use Rattle.lab_judge.proofs.Drops.{drop_all}
+use Rattle.lab_tasks.proofs.Drops.{drop_all}
 use Rattle.lab_core.proofs.HowFar.{ComesTo}
 use Rattle.lab_core.proofs.controller.Controller.play_events.Goals as goal
 

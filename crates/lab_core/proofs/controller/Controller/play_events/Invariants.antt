@@ -1,6 +1,6 @@
 use Rattle.std.proofs.Common.{◌≡◌, ◌≤◌, drop, length}
 use Rattle.lab_core.specs.Controller.{CanWork}
-use Rattle.lab_judge.specs.Playing.{first_place}
+use Rattle.lab_tasks.specs.Playing.{first_place}
 use Rattle.lab_core.proofs.InTurn.{going}
 use Rattle.lab_core.proofs.HowFar.{ComesTo}
 use Rattle.lab_core.proofs.controller.Controller.play_events.Given as goal

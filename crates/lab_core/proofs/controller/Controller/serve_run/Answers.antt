@@ -5,7 +5,7 @@ use Rattle.lab_core.specs.Obey.{start_of}
 use Rattle.lab_judge.specs.JudgeRun.{space_in}
 use Rattle.lab_core.specs.BatchList.{JudgedRun}
 use Rattle.lab_core.specs.Perform.{IsReady}
-use Rattle.lab_judge.specs.Tasks.{CanDo, task_of}
+use Rattle.lab_tasks.specs.Tasks.{CanDo, task_of}
 use Rattle.lab_core.proofs.Obey.{refuses, wanted}
 use Rattle.lab_core.proofs.Served.{idle_beside, mild_idle, refusal_part, run_done, run_idle, run_part, run_ready, run_refused}
 use Rattle.lab_core.proofs.controller.Controller.serve_run.Goals as goal

@@ -11,7 +11,7 @@ use Rattle.lab_judge.specs.declared.run.Queue.{Queue}
 use Rattle.lab_core.specs.Controller.{WorksWith}
 use Rattle.lab_core.specs.Queues.{ObeysRuns, ends_if, first_place}
 use Rattle.lab_core.specs.Sessions.{OpenSwap}
-use Rattle.lab_judge.proofs.Drops.{drop_all}
+use Rattle.lab_tasks.proofs.Drops.{drop_all}
 use Rattle.lab_core.proofs.RunsInTurn.{all_done, ends_there, fails_there, goes_further, place_at, starts, wants_behind, works_further}
 use Rattle.lab_core.proofs.HowFar.{ComesToRun}
 use Rattle.lab_core.proofs.controller.Controller.serve_runs.Goals as goal
