@@ -15,8 +15,6 @@ use Rattle.swap_txn.specs.declared.stage.Stage.{Stage}
 use Rattle.swap_txn.specs.declared.stage.Stage.TheVariants.{Clear, Cable, Load, Boot, Done}
 use Rattle.swap_txn.specs.declared.turned.Turned.{Turned}
 use Rattle.swap_txn.specs.declared.turned.Turned.TheVariants.{Same, Next, Trouble, Stuck, Stopped}
-use Rattle.swap_txn.specs.declared.went.Went.{Went}
-use Rattle.swap_txn.specs.declared.went.Went.TheVariants as wents
 use Rattle.swap_txn.specs.States.{Undo, View, stage_of, undone}
 use Rattle.plant.specs.Seen.{Seen}
 use Rattle.swap_txn.specs.Steps.{Sends, Writes}
@@ -42,69 +40,69 @@ pub none_left : (plan : Plan) (left : Left) → left ≡ nothing_left → stage_
 none_left plan left none = ap (λ l. stage_of plan l) none ∙ boots_are plan nothing_left refl
 
 -- A STEP OF THE COURSE, as what it makes of the swap
-pub sent_on : (v : View) (course : Course) (new : Left) → StepBy v.left course (Ok tt) new → SentBy v course (wents.On (record v { left = new }))
-sent_on v (Going left) new h = ap (λ l. wents.On (record v { left = l })) h.1
+pub sent_on : (v : View) (course : Course) (new : Left) → StepBy v.left course (Ok tt) new → SentBy v course (Same (record v { left = new }))
+sent_on v (Going left) new h = ap (λ l. Same (record v { left = l })) h.1
 sent_on v (Cut trouble) new h = absurd (cc h.0)
 sent_on v Halted new h = absurd (cc h)
 
-pub sent_back : (v : View) (course : Course) (new : Left) (what : What) (went : Went) → StepBy v.left course (Err (halts.Trouble what)) new → CutBack (record v { left = new }) what v.undo went → SentBy v course went
-sent_back v (Going left) new what went h back = absurd (cc h.0)
-sent_back v (Cut trouble) new what went h back = by v.undo (subst (λ w. CutBack (record v { left = new }) w v.undo went) (cc h.0) back)
+pub sent_back : (v : View) (course : Course) (new : Left) (what : What) (work : Turned View) → StepBy v.left course (Err (halts.Trouble what)) new → CutBack (record v { left = new }) what v.undo work → SentBy v course work
+sent_back v (Going left) new what work h back = absurd (cc h.0)
+sent_back v (Cut trouble) new what work h back = by v.undo (subst (λ w. CutBack (record v { left = new }) w v.undo work) (cc h.0) back)
   where
-    by : (undo : Option Undo) → CutBack (record v { left = new }) (what_of trouble) undo went → CutBy v (what_of trouble) undo went
-    by None h' = (h.1.0, h' ∙ ap (λ l. wents.Stuck (record v { left = l }) (what_of trouble)) h.1.1)
+    by : (undo : Option Undo) → CutBack (record v { left = new }) (what_of trouble) undo work → CutBy v (what_of trouble) undo work
+    by None h' = (h.1.0, h' ∙ ap (λ l. Stuck (record v { left = l }) (what_of trouble)) h.1.1)
     by (Some u) h' = h'
-sent_back v Halted new what went h back = absurd (cc h)
+sent_back v Halted new what work h back = absurd (cc h)
 
-pub sent_halted : (v : View) (course : Course) (new : Left) → StepBy v.left course (Err halts.Stopped) new → SentBy v course wents.Stopped
+pub sent_halted : (v : View) (course : Course) (new : Left) → StepBy v.left course (Err halts.Stopped) new → SentBy v course Stopped
 sent_halted v (Going left) new h = absurd (cc h.0)
 sent_halted v (Cut trouble) new h = absurd (cc h.0)
 sent_halted v Halted new h = refl
 
 -- THE LAST RECORD, as what it makes of the swap
-pub ended_ok : (v : View) (answer : Result (Unit {0}) AppendFault) → IsWritten {T = Unit {0}} tt answer (Ok tt) → EndedBy v answer (wents.Ended (ended_of v))
+pub ended_ok : (v : View) (answer : Result (Unit {0}) AppendFault) → IsWritten {T = Unit {0}} tt answer (Ok tt) → EndedBy v answer (Next (lives.Ended (ended_of v)))
 ended_ok v (Ok done) h = refl
 ended_ok v (Err faults.Plant) h = absurd (cc h)
 ended_ok v (Err faults.Stopped) h = absurd (cc h)
 ended_ok v (Err (faults.Full length size)) h = absurd h
 
-pub ended_stuck : (v : View) (answer : Result (Unit {0}) AppendFault) (what : What) → IsWritten {T = Unit {0}} tt answer (Err (halts.Trouble what)) → EndedBy v answer (wents.Stuck v what)
+pub ended_stuck : (v : View) (answer : Result (Unit {0}) AppendFault) (what : What) → IsWritten {T = Unit {0}} tt answer (Err (halts.Trouble what)) → EndedBy v answer (Stuck v what)
 ended_stuck v (Ok done) what h = absurd (cc h)
-ended_stuck v (Err faults.Plant) what h = let e : what ≡ whats.Journal = cc h in ap (λ w. wents.Stuck v w) e
+ended_stuck v (Err faults.Plant) what h = let e : what ≡ whats.Journal = cc h in ap (λ w. Stuck v w) e
 ended_stuck v (Err faults.Stopped) what h = absurd (cc h)
 ended_stuck v (Err (faults.Full length size)) what h = absurd h
 
-pub ended_stopped : (v : View) (answer : Result (Unit {0}) AppendFault) → IsWritten {T = Unit {0}} tt answer (Err halts.Stopped) → EndedBy v answer wents.Stopped
+pub ended_stopped : (v : View) (answer : Result (Unit {0}) AppendFault) → IsWritten {T = Unit {0}} tt answer (Err halts.Stopped) → EndedBy v answer Stopped
 ended_stopped v (Ok done) h = absurd (cc h)
 ended_stopped v (Err faults.Plant) h = absurd (cc h)
 ended_stopped v (Err faults.Stopped) h = refl
 ended_stopped v (Err (faults.Full length size)) h = absurd h
 
 -- the same of an equal view
-pub sends_at : (old v : View) (was now : Seen) (course : Course) (went : Went) → old ≡ v → Sends old.left was now course → SentBy old course went → (x : Course) × Sends v.left was now x × SentBy v x went
-sends_at old v was now course went same sent by = (course, subst (λ (x : View). Sends x.left was now course) same sent, subst (λ x. SentBy x course went) same by)
+pub sends_at : (old v : View) (was now : Seen) (course : Course) (work : Turned View) → old ≡ v → Sends old.left was now course → SentBy old course work → (x : Course) × Sends v.left was now x × SentBy v x work
+sends_at old v was now course work same sent by = (course, subst (λ (x : View). Sends x.left was now course) same sent, subst (λ x. SentBy x course work) same by)
 
-pub writes_at : (old v : View) (was now : Seen) (j k : Journal) (answer : Result (Unit {0}) AppendFault) (went : Went) → old ≡ v → Writes (last_of old) was now j k answer → EndedBy old answer went → (x : Result (Unit {0}) AppendFault) × Writes (last_of v) was now j k x × EndedBy v x went
-writes_at old v was now j k answer went same wrote by = (answer, subst (λ x. Writes (last_of x) was now j k answer) same wrote, subst (λ x. EndedBy x answer went) same by)
+pub writes_at : (old v : View) (was now : Seen) (j k : Journal) (answer : Result (Unit {0}) AppendFault) (work : Turned View) → old ≡ v → Writes (last_of old) was now j k answer → EndedBy old answer work → (x : Result (Unit {0}) AppendFault) × Writes (last_of v) was now j k x × EndedBy v x work
+writes_at old v was now j k answer work same wrote by = (answer, subst (λ x. Writes (last_of x) was now j k answer) same wrote, subst (λ x. EndedBy x answer work) same by)
 
 pub writes_stuck : (old v : View) (was now : Seen) (j k : Journal) (answer : Result (Unit {0}) AppendFault) (what : What) → old ≡ v → Writes (last_of old) was now j k answer → IsWritten {T = Unit {0}} tt answer (Err (halts.Trouble what))
-    → (x : Result (Unit {0}) AppendFault) × Writes (last_of v) was now j k x × EndedBy v x (wents.Stuck v what)
+    → (x : Result (Unit {0}) AppendFault) × Writes (last_of v) was now j k x × EndedBy v x (Stuck v what)
 writes_stuck old v was now j k answer what same wrote is = (answer, subst (λ x. Writes (last_of x) was now j k answer) same wrote, ended_stuck v answer what is)
 
-pub turn_at : (old v : View) (was now : Seen) (j k : Journal) (went : Went) → old ≡ v → TurnOf old was now j k went → TurnOf v was now j k went
-turn_at old v was now j k went same turn = subst (λ x. TurnOf x was now j k went) same turn
+pub turn_at : (old v : View) (was now : Seen) (j k : Journal) (work : Turned View) → old ≡ v → TurnOf old was now j k work → TurnOf v was now j k work
+turn_at old v was now j k work same turn = subst (λ x. TurnOf x was now j k work) same turn
 
 -- and of an equal state and answer
 pub turns_as : (old live : Live) (was now : Seen) (j k : Journal) (given turned : Turned Live) → live ≡ old → turned ≡ given → Turns old was now j k given → Turns live was now j k turned
 turns_as old live was now j k given turned live_is turned_is turns = subst (λ x. Turns x was now j k turned) (sym live_is) (subst (λ x. Turns old was now j k x) (sym turned_is) turns)
 
 -- a stuck swap is as it was
-pub stuck_suits : (Suits : Bool → Stage → Type 0) (v : View) (went : Went) → Suits v.commit (stage_of v.plan v.left) → StaysAt v went → IfStuck went (λ w. Suits w.commit (stage_of w.plan w.left))
-stuck_suits Suits v (wents.On w) suits stays = tt
-stuck_suits Suits v (wents.Ended ended) suits stays = tt
-stuck_suits Suits v (wents.Trouble back what) suits stays = tt
-stuck_suits Suits v (wents.Stuck w what) suits stays = subst (λ c. Suits c (stage_of w.plan w.left)) (sym stays.0) (subst (λ s. Suits v.commit s) (sym stays.1) suits)
-stuck_suits Suits v wents.Stopped suits stays = tt
+pub stuck_suits : (Suits : Bool → Stage → Type 0) (v : View) (work : Turned View) → Suits v.commit (stage_of v.plan v.left) → StaysAt v work → IfStuck work (λ w. Suits w.commit (stage_of w.plan w.left))
+stuck_suits Suits v (Same w) suits stays = tt
+stuck_suits Suits v (Next live) suits stays = tt
+stuck_suits Suits v (Trouble back what) suits stays = tt
+stuck_suits Suits v (Stuck w what) suits stays = subst (λ c. Suits c (stage_of w.plan w.left)) (sym stays.0) (subst (λ s. Suits v.commit s) (sym stays.1) suits)
+stuck_suits Suits v Stopped suits stays = tt
 
 -- A STATE OF THAT NAME
 pub moved_by : (b : Bool) (old new : Live) → same_state old new ≡ b → moved old new ≡ cond b (Same old) (Next new)
@@ -148,15 +146,15 @@ module _ (named : View → Live) where
       let fits_of : FitsBy (Some v) j = subst (λ o. FitsBy o j) (name.sees v) (fits (subst (λ (x : View). Suits x.commit Done) same done)) in
       subst (λ (x : View). FitsBy (Some x) j) (sym same) fits_of none
 
-  pub named_turns : (v : View) (was now : Seen) (j k : Journal) (went : Went) (turned : Turned Live) → IsName named → TurnOf v was now j k went → turned ≡ turned_by named went → Turns (named v) was now j k turned
-  named_turns v was now j k went turned name turn is = record { by = subst (λ o. TurnsBy o (named v) was now j k turned) (sym (name.sees v)) (went, turn, is ∙ sym (named_as went)) }
+  pub named_turns : (v : View) (was now : Seen) (j k : Journal) (work : Turned View) (turned : Turned Live) → IsName named → TurnOf v was now j k work → turned ≡ turned_by named work → Turns (named v) was now j k turned
+  named_turns v was now j k work turned name turn is = record { by = subst (λ o. TurnsBy o (named v) was now j k turned) (sym (name.sees v)) (work, turn, is ∙ sym (named_as work)) }
     where
-      named_as : (w : Went) → turned_by (with_view (named v)) w ≡ turned_by named w
-      named_as (wents.On w) = ap (λ live. moved live (state_of w)) (name.keeps v w)
-      named_as (wents.Ended ended) = refl
-      named_as (wents.Trouble back what) = refl
-      named_as (wents.Stuck w what) = ap (λ live. Stuck live what) (name.keeps v w)
-      named_as wents.Stopped = refl
+      named_as : (w : Turned View) → turned_by (with_view (named v)) w ≡ turned_by named w
+      named_as (Same w) = ap (λ live. moved live (state_of w)) (name.keeps v w)
+      named_as (Next live) = refl
+      named_as (Trouble back what) = refl
+      named_as (Stuck w what) = ap (λ live. Stuck live what) (name.keeps v w)
+      named_as Stopped = refl
 
 -- THE WAYS IN WHICH A TURN GOES, each with what it answers: what holds of each holds of the turn
 pub record Each (P : Turned Live → Type 0) (v : View) (was now : Seen) (j k : Journal) : Type 0 where
@@ -169,8 +167,8 @@ pub record Each (P : Turned Live → Type 0) (v : View) (was now : Seen) (j k : 
   pub stopped : v.left ≡ nothing_left → Writes (last_of v) was now j k (Err faults.Stopped) → P Stopped
 
 module _ (P : Turned Live → Type 0) (live : Live) (v : View) (was now : Seen) (j k : Journal) (is : view_of live ≡ Some v) (each : Each P v was now j k) where
-  sent : (course : Course) (went : Went) → Sends v.left was now course → k ≡ j → SentBy v course went → P (turned_by (with_view live) went)
-  sent (Going left) went s same by = subst (λ w. P (turned_by (with_view live) w)) (sym by) (at (same_state (with_view live w) (state_of w)) refl)
+  sent : (course : Course) (work : Turned View) → Sends v.left was now course → k ≡ j → SentBy v course work → P (turned_by (with_view live) work)
+  sent (Going left) work s same by = subst (λ w. P (turned_by (with_view live) w)) (sym by) (at (same_state (with_view live w) (state_of w)) refl)
     where
       w : View
       w = record v { left = left }
@@ -178,22 +176,22 @@ module _ (P : Turned Live → Type 0) (live : Live) (v : View) (was now : Seen) 
       at : (b : Bool) → same_state (with_view live w) (state_of w) ≡ b → P (moved (with_view live w) (state_of w))
       at true b = subst P (sym (moved_by true _ _ b)) (each.on left (with_view live w) s same (seen_as live v w is)).0
       at false b = subst P (sym (moved_by false _ _ b)) (each.on left (state_of w) s same (seen_of w)).1
-  sent (Cut trouble) went s same by = at v.undo refl by
+  sent (Cut trouble) work s same by = at v.undo refl by
     where
-      at : (undo : Option Undo) → v.undo ≡ undo → CutBy v (what_of trouble) undo went → P (turned_by (with_view live) went)
+      at : (undo : Option Undo) → v.undo ≡ undo → CutBy v (what_of trouble) undo work → P (turned_by (with_view live) work)
       at None none by = subst (λ w. P (turned_by (with_view live) w)) (sym by.1) (each.cut trouble by.0 (with_view live (record v { left = record v.left { watch = by.0 } })) s same none (seen_as live v _ is))
       at (Some u) some by = subst (λ w. P (turned_by (with_view live) w)) (sym by) (each.back trouble u s same some)
-  sent Halted went s same by = subst (λ w. P (turned_by (with_view live) w)) (sym by) (each.halted s same)
+  sent Halted work s same by = subst (λ w. P (turned_by (with_view live) w)) (sym by) (each.halted s same)
 
-  wrote : (answer : Result (Unit {0}) AppendFault) (went : Went) → v.left ≡ nothing_left → Writes (last_of v) was now j k answer → EndedBy v answer went → P (turned_by (with_view live) went)
-  wrote (Ok done) went none w by = subst (λ w. P (turned_by (with_view live) w)) (sym by) (each.ended done none w)
-  wrote (Err faults.Plant) went none w by = subst (λ w. P (turned_by (with_view live) w)) (sym by) (each.missed (with_view live v) none w (seen_as live v v is))
-  wrote (Err faults.Stopped) went none w by = subst (λ w. P (turned_by (with_view live) w)) (sym by) (each.stopped none w)
-  wrote (Err (faults.Full length size)) went none w by = absurd by
+  wrote : (answer : Result (Unit {0}) AppendFault) (work : Turned View) → v.left ≡ nothing_left → Writes (last_of v) was now j k answer → EndedBy v answer work → P (turned_by (with_view live) work)
+  wrote (Ok done) work none w by = subst (λ w. P (turned_by (with_view live) w)) (sym by) (each.ended done none w)
+  wrote (Err faults.Plant) work none w by = subst (λ w. P (turned_by (with_view live) w)) (sym by) (each.missed (with_view live v) none w (seen_as live v v is))
+  wrote (Err faults.Stopped) work none w by = subst (λ w. P (turned_by (with_view live) w)) (sym by) (each.stopped none w)
+  wrote (Err (faults.Full length size)) work none w by = absurd by
 
   pub by_each : (turned : Turned Live) → TurnsBy (Some v) live was now j k turned → P turned
   by_each turned h = subst P (sym h.2) (at h.0 h.1)
     where
-      at : (went : Went) → TurnOf v was now j k went → P (turned_by (with_view live) went)
-      at went (sends course s same by) = sent course went s same by
-      at went (writes none answer w by) = wrote answer went none w by
+      at : (work : Turned View) → TurnOf v was now j k work → P (turned_by (with_view live) work)
+      at work (sends course s same by) = sent course work s same by
+      at work (writes none answer w by) = wrote answer work none w by

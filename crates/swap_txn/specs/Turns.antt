@@ -16,8 +16,6 @@ use Rattle.swap_txn.specs.declared.live.Live.{Live}
 use Rattle.swap_txn.specs.declared.live.Live.TheVariants.{Begun, Clearing, Cabling, Loading, Booting, Ready, Undoing, Undone, Ended as IsOver}
 use Rattle.swap_txn.specs.declared.turned.Turned.{Turned}
 use Rattle.swap_txn.specs.declared.turned.Turned.TheVariants.{Same, Next, Trouble as Troubled, Stuck, Stopped}
-use Rattle.swap_txn.specs.declared.went.Went.{Went}
-use Rattle.swap_txn.specs.declared.went.Went.TheVariants as wents
 use Rattle.swap_txn.specs.States.{Undo, View, Plans, stage_of, undone, again, last_by}
 use Rattle.plant.specs.Seen.{Seen}
 use Rattle.swap_txn.specs.Steps.{Sends, Writes}
@@ -76,43 +74,43 @@ abbrev pub ended_of : View → Ended
 ended_of v = record { exp = v.exp; inside = v.inside; committed = v.commit; why = v.why }
 
 -- trouble begins the way back whole; a swap that has none is stuck as it was but for its watch
-abbrev pub CutBy : View → What → Option Undo → Went → Type 0
-CutBy v what (Some u) went = went ≡ wents.Trouble (undone v.exp u what) what
-CutBy v what None went = (watch : Option Watch) × (went ≡ wents.Stuck (record v { left = record v.left { watch = watch } }) what)
+abbrev pub CutBy : View → What → Option Undo → Turned View → Type 0
+CutBy v what (Some u) turned = turned ≡ Troubled (undone v.exp u what) what
+CutBy v what None turned = (watch : Option Watch) × (turned ≡ Stuck (record v { left = record v.left { watch = watch } }) what)
 
 -- what the course of a command makes of a swap
-abbrev pub SentBy : View → Course → Went → Type 0
-SentBy v (Going left) went = went ≡ wents.On (record v { left = left })
-SentBy v (Cut trouble) went = CutBy v (what_of trouble) v.undo went
-SentBy v Halted went = went ≡ wents.Stopped
+abbrev pub SentBy : View → Course → Turned View → Type 0
+SentBy v (Going left) turned = turned ≡ Same (record v { left = left })
+SentBy v (Cut trouble) turned = CutBy v (what_of trouble) v.undo turned
+SentBy v Halted turned = turned ≡ Stopped
 
 -- and its last record
-abbrev pub EndedBy : View → Result (Unit {0}) AppendFault → Went → Type 0
-EndedBy v (Ok done) went = went ≡ wents.Ended (ended_of v)
-EndedBy v (Err faults.Plant) went = went ≡ wents.Stuck v OfJournal
-EndedBy v (Err faults.Stopped) went = went ≡ wents.Stopped
-EndedBy v (Err (faults.Full length size)) went = ⊥
+abbrev pub EndedBy : View → Result (Unit {0}) AppendFault → Turned View → Type 0
+EndedBy v (Ok done) turned = turned ≡ Next (IsOver (ended_of v))
+EndedBy v (Err faults.Plant) turned = turned ≡ Stuck v OfJournal
+EndedBy v (Err faults.Stopped) turned = turned ≡ Stopped
+EndedBy v (Err (faults.Full length size)) turned = ⊥
 
 -- WHAT A TURN DOES, where work is left: it sends exactly the next command, or appends exactly the last record where nothing is left of the course
-pub data TurnOf (v : View) (was now : Seen) (j k : Journal) (went : Went) : Type 0 where
-  sends : (course : Course) → Sends v.left was now course → k ≡ j → SentBy v course went → TurnOf v was now j k went
-  writes : v.left ≡ nothing_left → (answer : Result (Unit {0}) AppendFault) → Writes (last_of v) was now j k answer → EndedBy v answer went → TurnOf v was now j k went
+pub data TurnOf (v : View) (was now : Seen) (j k : Journal) (turned : Turned View) : Type 0 where
+  sends : (course : Course) → Sends v.left was now course → k ≡ j → SentBy v course turned → TurnOf v was now j k turned
+  writes : v.left ≡ nothing_left → (answer : Result (Unit {0}) AppendFault) → Writes (last_of v) was now j k answer → EndedBy v answer turned → TurnOf v was now j k turned
 
 -- as the answer of a state of that name: the same one with work left, or the first later one
 abbrev pub moved : Live → Live → Turned Live
 moved old new = if same_state old new then Same old else Next new
 
-abbrev pub turned_by : (View → Live) → Went → Turned Live
-turned_by hold (wents.On v) = moved (hold v) (state_of v)
-turned_by hold (wents.Ended ended) = Next (IsOver ended)
-turned_by hold (wents.Trouble back what) = Troubled back what
-turned_by hold (wents.Stuck v what) = Stuck (hold v) what
-turned_by hold wents.Stopped = Stopped
+abbrev pub turned_by : (View → Live) → Turned View → Turned Live
+turned_by hold (Same v) = moved (hold v) (state_of v)
+turned_by hold (Next live) = Next live
+turned_by hold (Troubled back what) = Troubled back what
+turned_by hold (Stuck v what) = Stuck (hold v) what
+turned_by hold Stopped = Stopped
 
 -- A TURN OF A STATE; one that ended stays as it is
 abbrev pub TurnsBy : Option View → Live → Seen → Seen → Journal → Journal → Turned Live → Type 0
 TurnsBy None live was now j k turned = (turned ≡ Same live) × (now ≡ was) × (k ≡ j)
-TurnsBy (Some v) live was now j k turned = (went : Went) × TurnOf v was now j k went × (turned ≡ turned_by (with_view live) went)
+TurnsBy (Some v) live was now j k turned = (work : Turned View) × TurnOf v was now j k work × (turned ≡ turned_by (with_view live) work)
 
 pub record Turns (live : Live) (was now : Seen) (j k : Journal) (turned : Turned Live) : Type 0 where
   pub by : TurnsBy (view_of live) live was now j k turned

@@ -17,7 +17,6 @@ mod state;
 mod turned;
 mod watched;
 mod way_back;
-mod went;
 mod work;
 mod write;
 

@@ -1,7 +1,7 @@
 ghost use Rattle.std.specs.Prelude.{◌≡◌, IsTrue, refl};
 ghost use Rattle.swap_txn.specs.declared.live.Live.{Live as AnyState};
 ghost use Rattle.swap_txn.specs.declared.live.Live.TheVariants as lives;
-ghost use Rattle.swap_txn.specs.declared.went.Went.TheVariants as wents;
+ghost use Rattle.swap_txn.specs.declared.turned.Turned.TheVariants as turns;
 ghost use Rattle.swap_txn.specs.States.{View, stage_of};
 ghost use Rattle.swap_txn.specs.Turns.{held, same_state, state_of, turned_by};
 ghost use Rattle.swap_txn.specs.Going.{IfStuck, IsName};
@@ -9,7 +9,6 @@ ghost use Rattle.swap_txn.specs.Going.{IfStuck, IsName};
 use crate::at::At;
 use crate::stage::Stage;
 use crate::state::{Abort, Boot, Cable, Clear, Commit, First, Load, State, Undo};
-use crate::went::Went;
 use crate::work::Work;
 use crate::{Live, Turned};
 
@@ -158,7 +157,7 @@ pub(crate) fn any<S: Named>(turned: Turned<At<S>>) -> Turned<Live>
 
 /// The answer for work that goes on. The state keeps its name, or takes that of the first later state with work left.
 fn on<S: Named>(work: Work) -> Turned<At<S>>
-    ensures { held S.named result ≡ turned_by S.named (wents.On work) }
+    ensures { held S.named result ≡ turned_by S.named (turns.Same work) }
 {
     if S::is_at(work.commit, work.stage()) {
         Turned::Same(At::of(work))
@@ -167,16 +166,16 @@ fn on<S: Named>(work: Work) -> Turned<At<S>>
     }
 }
 
-/// The answer of a state of this name, for the outcome of a turn.
-pub(crate) fn turned<S: Named>(went: Went) -> Turned<At<S>>
-    requires { IfStuck went (λ v. S.Suits v.commit (stage_of v.plan v.left)) }
-    ensures { held S.named result ≡ turned_by S.named went }
+/// The answer of a state of this name, for that of its work.
+pub(crate) fn turned<S: Named>(answer: Turned<Work>) -> Turned<At<S>>
+    requires { IfStuck answer (λ v. S.Suits v.commit (stage_of v.plan v.left)) }
+    ensures { held S.named result ≡ turned_by S.named answer }
 {
-    match went {
-        Went::On(work) => on(work),
-        Went::Ended(ended) => Turned::Next(Live::Ended(ended)),
-        Went::Trouble(undoing, what) => Turned::Trouble(undoing, what),
-        Went::Stuck(work, what) => Turned::Stuck(At::of(work), what),
-        Went::Stopped => Turned::Stopped,
+    match answer {
+        Turned::Same(work) => on(work),
+        Turned::Next(live) => Turned::Next(live),
+        Turned::Trouble(undoing, what) => Turned::Trouble(undoing, what),
+        Turned::Stuck(work, what) => Turned::Stuck(At::of(work), what),
+        Turned::Stopped => Turned::Stopped,
     }
 }

@@ -4,9 +4,8 @@ use crate::halt::Halt;
 use crate::sending::Sending;
 use crate::stage::Stage;
 use crate::way_back::WayBack;
-use crate::went::Went;
 use crate::write::write;
-use crate::{Ended, Live};
+use crate::{Ended, Live, Turned};
 use journal_disk::Journal;
 use journal_rec::Encoded;
 use lab_base::{Name, What};
@@ -111,30 +110,30 @@ impl Work {
     }
 
     /// Begins the way back, where there is one.
-    fn turn_back(mut self, what: What) -> Went
+    fn turn_back(mut self, what: What) -> Turned<Work>
         ensures { CutBack self what self.undo result }
     {
         match self.back.take() {
-            Some(back) => Went::Trouble(back.undoing(self.exp, &what), what),
-            None => Went::Stuck(self, what),
+            Some(back) => Turned::Trouble(back.undoing(self.exp, &what), what),
+            None => Turned::Stuck(self, what),
         }
     }
 
     /// Sends the next command.
-    fn send<P: Plant>(mut self, plant: &mut P) -> Went
+    fn send<P: Plant>(mut self, plant: &mut P) -> Turned<Work>
         requires { stage_of self.plan self.left ≡ Done → ⊥ }
         ensures sends { (course : Course) × Sends self.left (P.seen plant.old) (P.seen plant.new) course × SentBy self course result }
         ensures stays { StaysAt self result }
     {
         match self.sending.step(plant) {
-            Ok(()) => Went::On(self),
+            Ok(()) => Turned::Same(self),
             Err(Halt::Trouble(what)) => self.turn_back(what),
-            Err(Halt::Stopped) => Went::Stopped,
+            Err(Halt::Stopped) => Turned::Stopped,
         }
     }
 
     /// Appends the last record.
-    fn end<P: Plant>(self, journal: &mut Journal, plant: &mut P) -> Went
+    fn end<P: Plant>(self, journal: &mut Journal, plant: &mut P) -> Turned<Work>
         requires stands { Stands (P.seen plant.old).told journal.old }
         requires fits { HasRoom journal.old (last_of self) }
         ensures writes { (answer : Result (Unit {0}) Unwritten) × Writes (last_of self) (P.seen plant.old) (P.seen plant.new) journal.old journal.new answer
@@ -142,19 +141,19 @@ impl Work {
         ensures stays { StaysAt self result }
     {
         match write(&self.last, journal, plant) {
-            Ok(()) => Went::Ended(Ended {
+            Ok(()) => Turned::Next(Live::Ended(Ended {
                 exp: self.exp,
                 inside: self.inside,
                 committed: self.commit,
                 why: self.why,
-            }),
-            Err(Halt::Trouble(what)) => Went::Stuck(self, what),
-            Err(Halt::Stopped) => Went::Stopped,
+            })),
+            Err(Halt::Trouble(what)) => Turned::Stuck(self, what),
+            Err(Halt::Stopped) => Turned::Stopped,
         }
     }
 
     /// Sends the next command. Where none is left, it appends the last record.
-    pub(crate) fn turn<P: Plant>(self, journal: &mut Journal, plant: &mut P) -> Went
+    pub(crate) fn turn<P: Plant>(self, journal: &mut Journal, plant: &mut P) -> Turned<Work>
         requires stands { Stands (P.seen plant.old).told journal.old }
         requires fits { self.left ≡ nothing_left → HasRoom journal.old (last_of self) }
         ensures turns { TurnOf self (P.seen plant.old) (P.seen plant.new) journal.old journal.new result }
