@@ -1,21 +1,24 @@
 -- A record that a turn appends, over what a plant tells.
-use Rattle.std.proofs.Common.{◌≡◌, List, [], ◌∷◌, ◌++◌, Some, IfSome, Result, Ok, OnOk, sym, ap, ◌∙◌, subst}
+use Rattle.std.proofs.Common.{◌≡◌, ◌+◌, List, [], ◌∷◌, ◌++◌, Some, IfSome, Result, Ok, OnOk, sym, ap, ◌∙◌, subst}
 use Rattle.std.proofs.lemmas.List.{append-nil}
 use Rattle.plant.specs.Events.{Event}
 use Rattle.plant.specs.Told.{Told, with_steps}
 use Rattle.journal_rec.specs.declared.record.Record.{Record}
 use Rattle.journal_model.specs.Appends.{All, added}
+use Rattle.journal_model.specs.Journals.{size}
 use Rattle.journal_disk.specs.Epochs.{HasEpoch}
-use Rattle.journal_disk.specs.Standing.{IsAt, side_of, gate_of, Ends}
+use Rattle.journal_disk.specs.Standing.{IsAt, side_of, gate_of, length_of, Ends}
 use Rattle.journal_disk.specs.declared.fault.AppendFault.{AppendFault}
 use Rattle.journal_disk.specs.declared.journal.Journal.{Journal}
 use Rattle.records_model.specs.Labs.{LabState, Texts, LabOf}
 use Rattle.records_model.specs.Works.{IsSound, AtWork, MayAppend}
+use Rattle.swap_turns.specs.Lengths.{appended, IsLonger}
 use Rattle.swap_turns.specs.Working.{StandForEither}
 use Rattle.swap_turns.proofs.Endings.{append_done, append_left}
 use Rattle.plant.specs.Seen.{Seen}
 use Rattle.swap_txn.specs.Steps.{Writes}
 use Rattle.swap_turns.specs.Running.{Stands}
+use Rattle.swap_turns.proofs.Lengths.{appended_whole}
 use Rattle.swap_turns.proofs.Telling.{sound_front}
 
 -- its steps
@@ -26,6 +29,12 @@ pub whole_steps : (r : Record) (was now : Seen) (j k : Journal) (answer : Result
 whole_steps r was now j k answer writes done ok =
     let ends : Ends (side_of j) (Ok done) writes.appends.run writes.appends.more = subst (λ a. Ends (side_of j) a writes.appends.run writes.appends.more) ok writes.appends.ends in
     (λ i. added (side_of j) (gate_of j) r (ends.0 i) ++ ends.1 i) ∙ append-nil (added (side_of j) (gate_of j) r All)
+
+-- THE JOURNAL IS LONGER by it
+pub longer_by : (r : Record) (was now : Seen) (j k : Journal) (answer : Result (Unit {0}) AppendFault) (writes : Writes r was now j k answer) (done : Unit {0}) → answer ≡ Ok done → IsLonger j k (steps_of r was now j k answer writes)
+longer_by r was now j k answer writes done ok =
+    let longer : length_of k ≡ length_of j + size r = subst (λ a. OnOk a (length_of k ≡ length_of j + size r)) ok writes.longer in
+    longer ∙ ap (λ n. length_of j + n) (sym (ap (λ l. appended l) (whole_steps r was now j k answer writes done ok) ∙ appended_whole (side_of j) (gate_of j) r))
 
 module _ (t : Texts) (s after : LabState) (r : Record) (was now : Seen) (j k : Journal) (answer : Result (Unit {0}) AppendFault) (writes : Writes r was now j k answer)
     (w : Told) (was_is : was.told ≡ Some w) (stands : Stands t w.trace j s) (may : IsSound t w.trace → MayAppend t w.trace stands.records s r after) where

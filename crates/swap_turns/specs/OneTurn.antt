@@ -48,11 +48,11 @@ open_in (swap.Open state trouble) = Some state
 open_in result = None
 
 -- of a swap on its way since a moment: it is on its way still, or over
-abbrev pub IsLeftOnWay : Texts → LabState → OpenSwap → Seen → Seen → Journal → TurnedSwap → Type 0
-IsLeftOnWay t s o before now j (swap.Open state trouble) = IsOnWay t s o before now j state
-IsLeftOnWay t s o before now j (swap.Over ended) = HasFinished t s o before now j (λ at outcome. EndsAs at ended outcome)
-IsLeftOnWay t s o before now j (swap.Stuck what) = HasFinished t s o before now j (λ at outcome. IsStuckAs what outcome)
-IsLeftOnWay t s o before now j swap.Stopped = HasFinished t s o before now j (λ at outcome. outcome ≡ Stopped)
+abbrev pub IsLeftOnWay : Texts → LabState → OpenSwap → Seen → Seen → Journal → Journal → TurnedSwap → Type 0
+IsLeftOnWay t s o before now i j (swap.Open state trouble) = IsOnWay t s o before now i j state
+IsLeftOnWay t s o before now i j (swap.Over ended) = HasFinished t s o before now i j (λ at outcome. EndsAs at ended outcome)
+IsLeftOnWay t s o before now i j (swap.Stuck what) = HasFinished t s o before now i j (λ at outcome. IsStuckAs what outcome)
+IsLeftOnWay t s o before now i j swap.Stopped = HasFinished t s o before now i j (λ at outcome. outcome ≡ Stopped)
 
 -- fewer turns are left
 abbrev pub TurnsLess : Live → TurnedSwap → Type 0

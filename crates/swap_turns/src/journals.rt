@@ -11,8 +11,8 @@ ghost use Rattle.plant.specs.declared.step.Side.TheVariants.{A, B};
 ghost use Rattle.journal_rec.specs.declared.record.Record.{Record};
 ghost use Rattle.journal_rec.specs.declared.record.Found.{Found};
 ghost use Rattle.lab_model.specs.Sound.{is_moving};
-ghost use Rattle.journal_model.specs.Journals.{Records, Bad, On, live, head, journal_length};
-ghost use Rattle.journal_model.specs.Appends.{Run, added};
+ghost use Rattle.journal_model.specs.Journals.{Records, Bad, On, live, head, journal_length, size};
+ghost use Rattle.journal_model.specs.Appends.{Run, All, added};
 ghost use Rattle.records_model.specs.Labs.{LabState, Texts, AreCanonical, LabOf, StopsAt, at_first};
 ghost use Rattle.records_model.specs.Works.{AtWork, IsSound, HasRoom, MayAppend};
 ghost use Rattle.journal_rec.specs.Packing.{ArePacked, side_length};
@@ -27,6 +27,7 @@ ghost use Rattle.journal_disk.specs.declared.fault.OpenFault.TheVariants as open
 ghost use Rattle.journal_disk.specs.declared.fault.AppendFault.{AppendFault};
 ghost use Rattle.journal_disk.specs.declared.fault.AppendFault.TheVariants as appending;
 ghost use Rattle.journal_disk.specs.declared.journal.Journal.{Journal};
+ghost use Rattle.swap_turns.specs.Lengths.{appended};
 ghost use Rattle.swap_turns.specs.Pieces.{has_command, has_miss, has_outer};
 ghost use Rattle.swap_turns.specs.Working.{StandForLab, AllStandFor, StandForEither, Works};
 
@@ -53,6 +54,7 @@ pub fn openings()
 /// An append of a record that may follow: after `Ok` the journal is at work with the record. Else each image stands for the lab before it or after
 /// it.
 /// It sends no device command, starts no plant, and has no failed reading. No call failed after `Ok`, and one did after `Plant`.
+/// A whole one makes the journal longer by the record's size.
 pub fn appends()
     ensures done { (t : Texts) (trace more : List Event) (j : Journal) (rs : List Record) (s u : LabState) (r : Record) (run : Run) (done : Unit {0})
         → Works t trace j rs s → MayAppend t trace rs s r u → Ends (side_of j) (Ok done) run more
@@ -73,6 +75,7 @@ pub fn appends()
         → has_miss (added (side_of j) (gate_of j) r run ++ more) ≡ false }
     ensures failed { (j : Journal) (r : Record) (run : Run) (more : List Event) → Ends (side_of j) (Err appending.Plant) run more
         → has_miss (added (side_of j) (gate_of j) r run ++ more) ≡ true }
+    ensures size { (j : Journal) (r : Record) → appended (added (side_of j) (gate_of j) r All) ≡ size r }
 {}
 
 /// A move of the journal onto the other side, with records of the same lab for which there is room.

@@ -1,6 +1,7 @@
 // One turn of an open swap, and what it left.
 ghost use Rattle.std.specs.Prelude.{◌≡◌, ◌↔◌, IfSome, IsTrue};
 ghost use Rattle.journal_disk.specs.Standing.{limit_of};
+ghost use Rattle.journal_disk.specs.declared.journal.Journal.{Journal as AnyJournal};
 ghost use Rattle.records_model.specs.Labs.{LabState as AnyLabState, Texts};
 ghost use Rattle.plant.specs.Seen.{Seen};
 ghost use Rattle.swap_txn.specs.Facts.{exp_of};
@@ -55,9 +56,9 @@ pub fn one_turn<P: Plant>(live: Live, journal: &mut Journal, plant: &mut P) -> T
     ensures turns { HasMade live (P.seen plant.old) (P.seen plant.new) journal.old journal.new result }
     ensures named { IfSome (open_in result) (λ x. exp_of x ≡ exp_of live) }
     // A swap on its way.
-    ensures after { (t : Texts) (s : AnyLabState) (o : OpenSwap) (before : Seen)
-        → IsOnWay t s o before (P.seen plant.old) journal.old live
-        → IsLeftOnWay t s o before (P.seen plant.new) journal.new result }
+    ensures after { (t : Texts) (s : AnyLabState) (o : OpenSwap) (before : Seen) (first : AnyJournal)
+        → IsOnWay t s o before (P.seen plant.old) first journal.old live
+        → IsLeftOnWay t s o before (P.seen plant.new) first journal.new result }
     ensures less { TurnsLess live result }
     ensures stopped { IsStop result ↔ IsTrue (P.seen plant.new).stopped }
     // The journal's own.

@@ -4,6 +4,7 @@ use Rattle.records_model.specs.Works.{AtWork}
 use Rattle.journal_disk.specs.Standing.{side_of, gate_of}
 use Rattle.swap_turns.specs.Pieces.{has_miss}
 use Rattle.swap_turns.proofs.Endings.{append_done, append_left, append_quiet, ended_quiet, ended_missed}
+use Rattle.swap_turns.proofs.Lengths.{appended_whole}
 use Rattle.swap_turns.proofs.journals.appends.Goals as goal
 
 pub returns-clause-done : goal.returns-clause-done
@@ -28,3 +29,6 @@ returns-clause-appended c = λ j r run more done ends. ended_missed (side_of j) 
 
 pub returns-clause-failed : goal.returns-clause-failed
 returns-clause-failed c = λ j r run more ends. ended_missed (side_of j) (gate_of j) r run more _ (ap has_miss ends)
+
+pub returns-clause-size : goal.returns-clause-size
+returns-clause-size c = λ j r. appended_whole (side_of j) (gate_of j) r

@@ -12,7 +12,7 @@ pub turn-requires-clause-fits : goal.turn-requires-clause-fits
 turn-requires-clause-fits g c = let o = c.requires.can in fits_open o.texts _ c.args.journal.now o.lab o.swap c.args.live o.work o.is_open
 
 pub returns-clause-after : goal.returns-clause-after
-returns-clause-after g c = λ t s o before w. left_after t s o before _ _ c.left_of.result c.turn.result (way_after t s o before _ _ _ _ c.args.live w c.turn.result c.turn.ensures.turns) c.left_of.ensures
+returns-clause-after g c = λ t s o before first w. left_after t s o before _ first _ c.left_of.result c.turn.result (way_after t s o before _ _ first _ _ c.args.live w c.turn.result c.turn.ensures.turns) c.left_of.ensures
 
 pub returns-clause-less : goal.returns-clause-less
 returns-clause-less g c = let o = c.requires.can in left_less c.args.live c.turn.result c.left_of.result (fewer_open o.lab o.swap _ _ _ _ c.args.live c.turn.result o.is_open c.turn.ensures.turns) c.left_of.ensures
