@@ -11,10 +11,10 @@ use Rattle.plant.specs.Seen.{Seen}
 use Rattle.swap_turns.specs.Swaps.{Swap}
 use Rattle.swap_turns.specs.Legs.{Leg, Forth, Undo, Settling, commits, why_of}
 use Rattle.swap_turns.specs.Running.{OpenSwap, IsOpen, AtWork, IsRunning, Working}
-use Rattle.swap_turns.specs.Turning.{Outcome, More, TurnsBack, Ended, Stuck, Unwritten, Stopped}
+use Rattle.swap_turns.specs.Turning.{Outcome, More, TurnsBack, Ended, Stuck, Unwritten, Stopped, IfGoesOn}
 use Rattle.swap_mgr.specs.declared.progress.Progress.{Progress}
 use Rattle.swap_mgr.specs.declared.progress.Progress.TheVariants as progress
-use Rattle.swap_mgr.specs.Managing.{Holds, IsPlain, IsManaging, IsProgress, IfGoesOn, GoesOnBy, HasTurned, HasTurnedToEnd}
+use Rattle.swap_mgr.specs.Managing.{Holds, IsPlain, IsManaging, IsProgress, GoesOnBy, HasTurned, HasTurnedToEnd}
 
 module _ (t : Texts) (told : Option Told) (k : Journal) (new : List Live) (opens : List (OpenSwap × Live)) (holds : Holds new opens) where
   managing : (after : LabState) → Working t told k after opens → IsManaging told k new
@@ -38,12 +38,12 @@ by_told P o (progress.Stuck (whats.Unlawful node from to)) outcome is h = subst 
 by_told P o (progress.Stuck whats.Journal) outcome is h = tt
 by_told P o progress.Stopped outcome is h = tt
 
-module _ (t : Texts) (s : LabState) (opens : List (OpenSwap × Live)) (exp : List Rattle.std.proofs.Common.ℕ) (was now : Seen) (k : Journal) (p : Progress) (new : List Live) where
-  pub turn_goes_on : HasTurned t s opens exp was now k p new → GoesOnBy p (IsManaging now.told k new)
+module _ (t : Texts) (s : LabState) (opens : List (OpenSwap × Live)) (exp : List Rattle.std.proofs.Common.ℕ) (was now : Seen) (j k : Journal) (p : Progress) (new : List Live) where
+  pub turn_goes_on : HasTurned t s opens exp was now j k p new → GoesOnBy p (IsManaging now.told k new)
   turn_goes_on h = by_told (IsManaging now.told k new) h.swap p h.outcome h.is_told
       (by_outcome t now.told k new _ h.holds (λ outcome after. Rattle.swap_turns.specs.Turning.TurnSteps s h.swap h.steps outcome after) h.outcome h.all)
 
-  pub end_goes_on : HasTurnedToEnd t s opens exp was now k p new → GoesOnBy p (IsManaging now.told k new)
+  pub end_goes_on : HasTurnedToEnd t s opens exp was now j k p new → GoesOnBy p (IsManaging now.told k new)
   end_goes_on h = by_told (IsManaging now.told k new) h.finished.at p h.finished.outcome h.finished.is_told
       (by_outcome t now.told k new _ h.holds (λ outcome after. Rattle.swap_turns.specs.Finishing.Finishes s h.swap h.finished.steps outcome after) h.finished.outcome h.all)
 

@@ -31,11 +31,11 @@ use Rattle.swap_turns.specs.Finishing.{IsOver, Finishes, FinishLeaves, HasFinish
 use Rattle.swap_turns.specs.Legs.{leg_view}
 use Rattle.swap_turns.specs.OneTurn.{CanTurn, IsLeftBy, open_in}
 use Rattle.swap_turns.specs.Running.{OpenSwap, IsOpen, Working}
-use Rattle.swap_turns.specs.Turning.{Outcome, More, TurnsBack, Ended, Stuck, Unwritten, Stopped, TurnSteps, StillWorking, open_after, state_after, slot}
+use Rattle.swap_turns.specs.Turning.{Outcome, More, TurnsBack, Ended, Stuck, Unwritten, Stopped, IfGoesOn, TurnSteps, StillWorking, open_after, state_after, slot}
 use Rattle.swap_turns.proofs.Finishing.{way_starts}
 use Rattle.swap_turns.proofs.Together.{gone, one_more, one_of_them}
 use Rattle.swap_mgr.specs.declared.progress.Progress.{Progress}
-use Rattle.swap_mgr.specs.Managing.{Holds, IsPlain, IsManaging, IsProgress, IfGoesOn, HasTurned, HasTurnedToEnd, HasOpened}
+use Rattle.swap_mgr.specs.Managing.{Holds, IsPlain, IsManaging, IsProgress, HasTurned, HasTurnedToEnd, HasOpened}
 use Rattle.swap_mgr.specs.Open.{HasOpen, IsWithout, IsWith, PutBy}
 use Rattle.swap_mgr.specs.Turns.{progress_of}
 use Rattle.swap_mgr.proofs.Telling.{IsNext, retold, next_of}
@@ -165,7 +165,7 @@ module _ (t : Texts) (s : LabState) (opens : List Slot) (exp : List ℕ) (was no
   still_as result steps Stopped h = tt
 
   -- A TURN of one of them
-  pub turned_one : (y : Turned Live) (result : TurnedSwap) → Turns x was now j k y → IsLeftBy y result → PutBy mid (open_in result) new → HasTurned t s opens exp was now k (progress_of result) new
+  pub turned_one : (y : Turned Live) (result : TurnedSwap) → Turns x was now j k y → IsLeftBy y result → PutBy mid (open_in result) new → HasTurned t s opens exp was now j k (progress_of result) new
   turned_one y result turns is put =
       let split_work = as_split t was.told j s opens working old holds x mid w its.0 at.0 at.1 at.2 in
       let a = one_of_them t s its.0 x at.0 at.1 was now j k split_work y turns in
@@ -185,6 +185,7 @@ module _ (t : Texts) (s : LabState) (opens : List Slot) (exp : List ℕ) (was no
         sound = a.turn.sound;
         later = a.turn.later;
         cause = a.turn.cause;
+        longer = a.turn.longer;
         next = slot (open_after its.0 a.turn.steps a.turn.outcome) (state_after y);
         next_is = next_of (slot (open_after its.0 a.turn.steps a.turn.outcome) (state_after y)) (open_after its.0 a.turn.steps a.turn.outcome) (open_in result) r.next;
         holds = next_holds mid new at.0 at.1 (slot (open_after its.0 a.turn.steps a.turn.outcome) (state_after y)) (open_after its.0 a.turn.steps a.turn.outcome) (open_in result) (still_plain its.0 a.turn.steps a.turn.outcome (holds.plain (its.0, x) its.1)) (mid_holds t was.told j s opens working old holds x mid w its.0 at.0 at.1 at.2) r.next put;
@@ -201,14 +202,14 @@ module _ (t : Texts) (s : LabState) (opens : List Slot) (exp : List ℕ) (was no
   out_as steps Stopped over leaves = tt
 
   -- it is on its way
-  pub way_of : IsOnWay t s its.0 was was j x
+  pub way_of : IsOnWay t s its.0 was was j j x
   way_of =
       let split_work = as_split t was.told j s opens working old holds x mid w its.0 at.0 at.1 at.2 in
       let here = Has-right at.0 ((its.0, x) ∷ at.1) (its.0, x) (inl refl) in
       way_starts t s its.0 was j x split_work.work (split_work.each (its.0, x) here) (split_work.running (its.0, x) here)
 
   -- TURNED TO ITS END
-  pub out_one : (Tells : OpenSwap → Outcome → Type 0) (result : Progress) → ((o : OpenSwap) (outcome : Outcome) → Tells o outcome → IsProgress o result outcome) → HasFinished t s its.0 was now k Tells → HasTurnedToEnd t s opens exp was now k result mid
+  pub out_one : (Tells : OpenSwap → Outcome → Type 0) (result : Progress) → ((o : OpenSwap) (outcome : Outcome) → Tells o outcome → IsProgress o result outcome) → HasFinished t s its.0 was now j k Tells → HasTurnedToEnd t s opens exp was now j k result mid
   out_one Tells result tells f = record {
     before = at.0;
     behind = at.1;
@@ -228,6 +229,7 @@ module _ (t : Texts) (s : LabState) (opens : List Slot) (exp : List ℕ) (was no
       sound = f.sound;
       later = f.later;
       cause = f.cause;
+      longer = f.longer;
     };
     holds = mid_holds t was.told j s opens working old holds x mid w its.0 at.0 at.1 at.2;
     all = out_as f.steps f.outcome f.over f.leaves;

@@ -21,8 +21,9 @@ use Rattle.swap_turns.specs.Causes.{IsLater}
 use Rattle.swap_turns.specs.Beginning.{HasBegun, HasNotBegun, opened}
 use Rattle.swap_turns.specs.Finishing.{Finishes, HasFinished}
 use Rattle.swap_turns.specs.Legs.{Leg, Settling}
+use Rattle.swap_turns.specs.Lengths.{IsLonger}
 use Rattle.swap_turns.specs.Running.{OpenSwap, Working}
-use Rattle.swap_turns.specs.Turning.{Outcome, More, TurnsBack, Unwritten, Stopped, TurnSteps, Leaves, EndsAs, IsStuckAs, IsOutcomeCaused, open_after}
+use Rattle.swap_turns.specs.Turning.{Outcome, More, TurnsBack, Unwritten, Stopped, TurnSteps, Leaves, EndsAs, IfGoesOn, IsStuckAs, IsOutcomeCaused, open_after}
 use Rattle.swap_mgr.specs.declared.progress.NotOpened.{NotOpened}
 use Rattle.swap_mgr.specs.declared.progress.NotOpened.TheVariants as unopened
 use Rattle.swap_mgr.specs.declared.progress.Progress.{Progress}
@@ -63,20 +64,14 @@ IsProgress o (progress.Ended ended) outcome = EndsAs o ended outcome
 IsProgress o (progress.Stuck what) outcome = IsStuckAs what outcome
 IsProgress o progress.Stopped outcome = outcome ≡ Stopped
 
--- the controller goes on
-abbrev pub IfGoesOn : Outcome → Type 0 → Type 0
-IfGoesOn Unwritten P = Unit {0}
-IfGoesOn Stopped P = Unit {0}
-IfGoesOn outcome P = P
-
--- the same by what is told
+-- the controller goes on, by what is told
 abbrev pub GoesOnBy : Progress → Type 0 → Type 0
 GoesOnBy (progress.Stuck whats.Journal) P = Unit {0}
 GoesOnBy progress.Stopped P = Unit {0}
 GoesOnBy told P = P
 
 -- AFTER A TURN BY NAME: one of the open swaps made it, and it stands in its place again while it is open; each other is as it was
-pub record HasTurned (t : Texts) (s : LabState) (opens : List (OpenSwap × Live)) (exp : List ℕ) (was now : Seen) (k : Journal) (told : Progress) (new : List Live) : Type 0 where
+pub record HasTurned (t : Texts) (s : LabState) (opens : List (OpenSwap × Live)) (exp : List ℕ) (was now : Seen) (j k : Journal) (told : Progress) (new : List Live) : Type 0 where
   pub before : List (OpenSwap × Live)
   pub behind : List (OpenSwap × Live)
   pub swap : OpenSwap
@@ -91,20 +86,21 @@ pub record HasTurned (t : Texts) (s : LabState) (opens : List (OpenSwap × Live)
   pub sound : IfSome was.told (λ w. IsSound t w.trace → IsSound t (w.trace ++ steps))
   pub later : IsLater was now
   pub cause : IsOutcomeCaused outcome was now
+  pub longer : IfGoesOn outcome (IsLonger j k steps)
   pub next : List (OpenSwap × Live)
   pub next_is : map (λ q. q.0) next ≡ listed (open_after swap steps outcome)
   pub holds : Holds new (before ++ (next ++ behind))
   pub all : IfGoesOn outcome ((after : LabState) × TurnSteps s swap steps outcome after × Working t now.told k after (before ++ (next ++ behind)))
 
 -- AFTER IT WAS TURNED TO ITS END, with none between: it is gone, and each other is as it was
-pub record HasTurnedToEnd (t : Texts) (s : LabState) (opens : List (OpenSwap × Live)) (exp : List ℕ) (was now : Seen) (k : Journal) (told : Progress) (new : List Live) : Type 0 where
+pub record HasTurnedToEnd (t : Texts) (s : LabState) (opens : List (OpenSwap × Live)) (exp : List ℕ) (was now : Seen) (j k : Journal) (told : Progress) (new : List Live) : Type 0 where
   pub before : List (OpenSwap × Live)
   pub behind : List (OpenSwap × Live)
   pub swap : OpenSwap
   pub state : Live
   pub opens_are : opens ≡ before ++ (swap, state) ∷ behind
   pub named : swap.swap.name ≡ exp
-  pub finished : HasFinished t s swap was now k (λ at outcome. IsProgress at told outcome)
+  pub finished : HasFinished t s swap was now j k (λ at outcome. IsProgress at told outcome)
   pub holds : Holds new (before ++ behind)
   pub all : IfGoesOn finished.outcome ((after : LabState) × Finishes s swap finished.steps finished.outcome after × Working t now.told k after (before ++ behind))
 

@@ -209,7 +209,7 @@ impl Manager {
         ensures nothing { OnErr result ((plant.new ≡ plant.old) × (journal.new ≡ journal.old)) }
         ensures turned { IfOk result (λ progress. (t : Texts) (s : LabState) (opens : List (OpenSwap × State))
             → Working t (P.seen plant.old).told journal.old s opens → Holds self.old opens
-            → HasTurned t s opens exp (P.seen plant.old) (P.seen plant.new) journal.new progress self.new) }
+            → HasTurned t s opens exp (P.seen plant.old) (P.seen plant.new) journal.old journal.new progress self.new) }
         ensures goes_on { IfOk result (λ progress. GoesOnBy progress (IsManaging (P.seen plant.new).told journal.new self.new)) }
         ensures stopped { IfOk result (λ progress. IsStop progress ↔ IsTrue (P.seen plant.new).stopped) }
         ensures limit { limit_of journal.new ≡ limit_of journal.old }
@@ -237,7 +237,7 @@ impl Manager {
         ensures nothing { OnErr result ((plant.new ≡ plant.old) × (journal.new ≡ journal.old)) }
         ensures finished { IfOk result (λ progress. (t : Texts) (s : LabState) (opens : List (OpenSwap × State))
             → Working t (P.seen plant.old).told journal.old s opens → Holds self.old opens
-            → HasTurnedToEnd t s opens exp (P.seen plant.old) (P.seen plant.new) journal.new progress self.new) }
+            → HasTurnedToEnd t s opens exp (P.seen plant.old) (P.seen plant.new) journal.old journal.new progress self.new) }
         ensures goes_on { IfOk result (λ progress. GoesOnBy progress (IsManaging (P.seen plant.new).told journal.new self.new)) }
         ensures stopped { IfOk result (λ progress. IsStop progress ↔ IsTrue (P.seen plant.new).stopped) }
         ensures limit { limit_of journal.new ≡ limit_of journal.old }

@@ -19,16 +19,17 @@ finish-requires g c =
         lab = m.lab;
         swap = _;
         before = _;
+        first = _;
         way = way_of m.texts m.lab m.opens c.args.exp (g.P.Plant.seen c.args.plant.now) (g.P.Plant.seen c.args.plant.now) c.args.journal.now c.args.journal.now m.working c.args.self.now c.take.new.self c.take.new.self m.holds c.in-Some.live c.in-Some.ensures.taken c.in-Some.ensures.named;
       };
     }
 
 by_lab : (g : given.Over) (c : goal.After-progress_at_end g) (t : Texts) (s : LabState) (opens : List (OpenSwap × Live)) → Working t (g.P.Plant.seen c.args.plant.now).told c.args.journal.now s opens → Holds c.args.self.now opens
-    → HasTurnedToEnd t s opens c.args.exp (g.P.Plant.seen c.args.plant.now) (g.P.Plant.seen c.finish.new.plant) c.finish.new.journal c.progress_at_end.result c.take.new.self
+    → HasTurnedToEnd t s opens c.args.exp (g.P.Plant.seen c.args.plant.now) (g.P.Plant.seen c.finish.new.plant) c.args.journal.now c.finish.new.journal c.progress_at_end.result c.take.new.self
 by_lab g c t s opens working holds =
     out_one t s opens c.args.exp (g.P.Plant.seen c.args.plant.now) (g.P.Plant.seen c.finish.new.plant) c.args.journal.now c.finish.new.journal working c.args.self.now c.take.new.self c.take.new.self holds c.in-Some.live c.in-Some.ensures.taken c.in-Some.ensures.named
     (λ at outcome. Tells c.finish.result at outcome) c.progress_at_end.result (ended_told c.finish.result c.progress_at_end.result c.progress_at_end.ensures.is)
-    (c.finish.ensures.ends t s _ _ (way_of t s opens c.args.exp (g.P.Plant.seen c.args.plant.now) (g.P.Plant.seen c.finish.new.plant) c.args.journal.now c.finish.new.journal working c.args.self.now c.take.new.self c.take.new.self holds c.in-Some.live c.in-Some.ensures.taken c.in-Some.ensures.named))
+    (c.finish.ensures.ends t s _ _ _ (way_of t s opens c.args.exp (g.P.Plant.seen c.args.plant.now) (g.P.Plant.seen c.finish.new.plant) c.args.journal.now c.finish.new.journal working c.args.self.now c.take.new.self c.take.new.self holds c.in-Some.live c.in-Some.ensures.taken c.in-Some.ensures.named))
 
 pub returns-clause-finished : goal.returns-clause-finished
 returns-clause-finished g c = λ t s opens working holds. by_lab g c t s opens working holds
@@ -36,4 +37,4 @@ returns-clause-finished g c = λ t s opens working holds. by_lab g c t s opens w
 pub returns-clause-goes_on : goal.returns-clause-goes_on
 returns-clause-goes_on g c =
     let m = c.requires.managed in
-    end_goes_on m.texts m.lab m.opens c.args.exp _ _ c.finish.new.journal c.progress_at_end.result c.take.new.self (by_lab g c m.texts m.lab m.opens m.working m.holds)
+    end_goes_on m.texts m.lab m.opens c.args.exp _ _ c.args.journal.now c.finish.new.journal c.progress_at_end.result c.take.new.self (by_lab g c m.texts m.lab m.opens m.working m.holds)
