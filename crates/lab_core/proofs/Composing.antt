@@ -15,7 +15,9 @@ use Rattle.records_model.specs.Works.{IsSound}
 use Rattle.lab_state.specs.Texts.{the_texts}
 use Rattle.journal_disk.specs.Standing.{length_of, limit_of, side_of}
 use Rattle.swap_turns.proofs.Images.{reads_on}
+use Rattle.swap_turns.specs.Lengths.{IsLonger}
 use Rattle.swap_turns.specs.Running.{Stands}
+use Rattle.swap_turns.proofs.Lengths.{longer_none, longer_on}
 use Rattle.swap_turns.proofs.Telling.{if_both, if_back}
 use Rattle.script_text.specs.Replies.{blames_device, closes}
 use Rattle.script_text.specs.declared.reply.Reply.{Reply}
@@ -81,6 +83,7 @@ module _ {X : Type 0} (l : Listing X) (o : Origin X) (exp : Option (List ℕ)) w
     sound = some_all o.before.told _ (λ t sound. subst (λ trace. IsSound the_texts trace) (sym (append-nil t.trace)) sound);
     works = works;
     limit = refl;
+    longer = longer_none o.old.journal;
     opened = λ swap has. (swap, has, refl, refl);
     device = λ blames. let both : true ≡ false = sym blames ∙ mild in absurd (cc both);
     here = λ blames. let both : true ≡ false = sym blames ∙ calm in absurd (cc both);
@@ -100,6 +103,7 @@ module _ {X : Type 0} (l : Listing X) (o : Origin X) (exp : Option (List ℕ)) w
     );
     works = λ _. h.works;
     limit = h.limit;
+    longer = λ _. h.longer;
     opened = were_opened exp (Some (l.whole at)) o.opens h.to o.devices (λ name. calm_ends (l.whole at) name (tells.ends at)) h.opened;
     down = λ shuts. let both : true ≡ false = sym shuts ∙ goes in absurd (cc both);
     device = h.device;
@@ -120,6 +124,7 @@ module _ {X : Type 0} (l : Listing X) (o : Origin X) (exp : Option (List ℕ)) w
     );
     works = λ _. h.works;
     limit = h.limit;
+    longer = λ _. h.longer;
     opened = were_opened exp None o.opens h.to o.devices (λ name. refl) h.opened;
     down = tt;
     device = tt;
@@ -151,6 +156,7 @@ module _ {X : Type 0} (l : Listing X) (o : Origin X) (exp : Option (List ℕ)) w
       more = going;
       length = length_of new.journal;
       length_is = length_there;
+      longer = h.longer;
       done = subst (λ (n : ℕ). let set : Setting = record { length = length_of new.journal; limit = n; devices = o.devices } in IsDoneBy (l.Judges at set new.lab h.to) set new.lab h.to steps after) h.limit done;
     }
 
@@ -173,14 +179,17 @@ module _ {X : Type 0} (l : Listing X) (o : Origin X) (exp : Option (List ℕ)) w
       limit_on : limit_of newer.journal ≡ limit_of o.old.journal
       limit_on = b.limit ∙ h.limit
 
+      longer_by : stays_at_work result ≡ true → IsLonger o.old.journal newer.journal own
+      longer_by going_on = longer_on o.old.journal new.journal newer.journal h.own b.obeys.0 h.longer (b.longer going_on)
+
       opened_now : ((name : List ℕ) → reply_of result ≡ Some (replies.More name) → ⊥) → WereOpen o.opens b.to
       opened_now plain = opened_on o.opens h.to b.to h.opened (none_opened named (reply_of result) h.to b.to o.devices plain b.opened)
 
       -- the whole, by how it ends
-      leaves_all : (answer : Result Reply CoreFault) → ((name : List ℕ) → ends_swap (reply_of answer) name ≡ false) → ((name : List ℕ) → reply_of result ≡ Some (replies.More name) → ⊥) → EndsBy (AllDone l o) (AllWants l o) trace own newer.lab b.to answer → (stays_at_work answer ≡ true → WorksWith then' newer b.to)
+      leaves_all : (answer : Result Reply CoreFault) → ((name : List ℕ) → ends_swap (reply_of answer) name ≡ false) → ((name : List ℕ) → reply_of result ≡ Some (replies.More name) → ⊥) → EndsBy (AllDone l o) (AllWants l o) trace own newer.lab b.to answer → (stays_at_work answer ≡ true → WorksWith then' newer b.to) → (stays_at_work answer ≡ true → stays_at_work result ≡ true)
           → IfOk answer (λ reply. closes reply ≡ true → Rose o.before.faults.disk then'.faults.disk) → IfOk answer (λ reply. blames_device reply ≡ true → Rose (counted_from o.opens exp o.devices) then'.faults.devices)
           → IfOk answer (λ reply. blames_now reply ≡ true → Rose o.before.faults.devices then'.faults.devices) → (o.before.stopped ≡ false → IsErrOf answer faults.Stopped ↔ IsTrue then'.stopped) → Obeys (AllDone l o) (AllWants l o) o.devices o.before then' o.old newer o.opens exp answer
-      leaves_all answer calm plain ends works down device here stops = record {
+      leaves_all answer calm plain ends works goes down device here stops = record {
         to = b.to;
         obeys = (
           own,
@@ -189,6 +198,7 @@ module _ {X : Type 0} (l : Listing X) (o : Origin X) (exp : Option (List ℕ)) w
         );
         works = works;
         limit = limit_on;
+        longer = λ going_on. longer_by (goes going_on);
         opened = were_opened exp (reply_of answer) o.opens b.to o.devices calm (opened_now plain);
         down = down;
         device = device;
@@ -236,6 +246,7 @@ module _ {X : Type 0} (l : Listing X) (o : Origin X) (exp : Option (List ℕ)) w
       sound = of_trace o.before.told (Sound (own (Ok reply) b)) (sound_on (Ok reply) b);
       works = b.works (ap not goes);
       limit = limit_on (Ok reply) b;
+      longer = longer_by (Ok reply) b (ap not goes);
       opened = opened_now (Ok reply) b (λ name is. plain name (same_Some reply (replies.More name) is));
       device = λ blaming. elim (tells.blames at reply blaming) [ inl before ↦ rose_on (counted_from o.opens exp o.devices) now.faults.devices then'.faults.devices (h.device before) b.still | inr this ↦ blames this ];
       here = λ blaming. elim (tells.here at reply blaming) [ inl before ↦ rose_on o.before.faults.devices now.faults.devices then'.faults.devices (h.here before) b.still | inr this ↦ Rose_since o.before.faults.devices now.faults.devices then'.faults.devices h.devices (blames_here this) ];
@@ -261,7 +272,7 @@ module _ {X : Type 0} (l : Listing X) (o : Origin X) (exp : Option (List ℕ)) w
         leaves_all (Ok reply) b (Ok answer) (λ name. shut_ends answer name shut_too) (λ name is. shut_is_none reply shut name (same_Some reply (replies.More name) is))
         (subst (λ x. AnswersBy (AllDone l o) trace (own (Ok reply) b) answer newer.lab b.to x) (sym shut_too)
         (shuts_all (Ok reply) b reply (λ a c. []) answer (last_is reply shut) (subst (λ x. Answers (trace_in now.told) J start b.obeys.0 reply newer.lab b.to x) shut b.obeys.2.ends)))
-        (λ going_on. let both : false ≡ true = sym (ap not shut_too) ∙ going_on in absurd (cc both)) (λ is. Rose_since o.before.faults.disk now.faults.disk then'.faults.disk h.disk (b.down shut))
+        (λ going_on. let both : false ≡ true = sym (ap not shut_too) ∙ going_on in absurd (cc both)) (λ going_on. let both : false ≡ true = sym (ap not shut_too) ∙ going_on in absurd (cc both)) (λ is. Rose_since o.before.faults.disk now.faults.disk then'.faults.disk h.disk (b.down shut))
         (λ blaming. elim (tells.blames at reply blaming) [ inl before ↦ rose_on (counted_from o.opens exp o.devices) now.faults.devices then'.faults.devices (h.device before) b.still | inr this ↦ blames this ])
         (λ blaming. elim (tells.here at reply blaming) [ inl before ↦ rose_on o.before.faults.devices now.faults.devices then'.faults.devices (h.here before) b.still | inr this ↦ Rose_since o.before.faults.devices now.faults.devices then'.faults.devices h.devices (blames_here this) ])
         (λ ran. (λ is. let none' : Ok answer ≡ Err faults.Stopped = is in absurd (cc none'), λ stop. let both : true ≡ false = sym stop ∙ runs_on reply b.stopped (h.runs ran) in absurd (cc both)))
@@ -270,12 +281,12 @@ module _ {X : Type 0} (l : Listing X) (o : Origin X) (exp : Option (List ℕ)) w
     pub comes_to_stop : (b : Sub (Err faults.Stopped)) → Obeys (AllDone l o) (AllWants l o) o.devices o.before then' o.old newer o.opens exp (Err faults.Stopped)
     comes_to_stop b =
         leaves_all (Err faults.Stopped) b (Err faults.Stopped) (λ name. refl) (λ name is. absurd (cc is)) (shuts_all (Err faults.Stopped) b replies.Stopped (λ a c. Restarted a c ∷ []) replies.Stopped refl b.obeys.2.ends)
-        (λ going_on. absurd (cc going_on)) tt tt tt (λ ran. b.stopped (h.runs ran))
+        (λ going_on. absurd (cc going_on)) (λ going_on. absurd (cc going_on)) tt tt tt (λ ran. b.stopped (h.runs ran))
 
     -- MEMORY WAS WANTING in it, which is undone
     pub comes_to_want : (J (Ok Recover) → ⊥) → (b : Sub (Err faults.Memory)) → Obeys (AllDone l o) (AllWants l o) o.devices o.before then' o.old newer o.opens exp (Err faults.Memory)
     comes_to_want no_recover b =
-        leaves_all (Err faults.Memory) b (Err faults.Memory) (λ name. refl) (λ name is. absurd (cc is)) (at, stays b.obeys.2.ends) (λ going_on. b.works going_on) tt tt tt (λ ran. b.stopped (h.runs ran))
+        leaves_all (Err faults.Memory) b (Err faults.Memory) (λ name. refl) (λ name is. absurd (cc is)) (at, stays b.obeys.2.ends) (λ going_on. b.works going_on) (λ going_on. going_on) tt tt tt (λ ran. b.stopped (h.runs ran))
       where
         stays : WantsIn J start b.obeys.0 newer.lab b.to → Came (own (Err faults.Memory) b) at newer.lab b.to
         stays (undone nothing lab_is to_is) =

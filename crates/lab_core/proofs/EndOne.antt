@@ -8,9 +8,10 @@ use Rattle.lab_state.specs.Texts.{the_texts}
 use Rattle.swap_turns.specs.Finishing.{Finishes, FinishLeaves, IsFinishCaused, IsOver}
 use Rattle.swap_turns.specs.Running.{OpenSwap as RunningSwap, Working}
 use Rattle.swap_turns.specs.Swaps.{Swap as SwapOf, Moves}
-use Rattle.swap_turns.specs.Turning.{Outcome, More, TurnsBack, Ended, Stuck, Unwritten, Stopped}
+use Rattle.swap_turns.specs.Lengths.{IsLonger}
+use Rattle.swap_turns.specs.Turning.{Outcome, More, TurnsBack, Ended, Stuck, Unwritten, Stopped, IfGoesOn}
 use Rattle.swap_turns.proofs.Closing.{closes_as}
-use Rattle.swap_mgr.specs.Managing.{IfGoesOn, IsPlain}
+use Rattle.swap_mgr.specs.Managing.{IsPlain}
 use Rattle.swap_mgr.specs.Turns.{IsStop}
 use Rattle.swap_mgr.specs.declared.progress.Progress.{Progress}
 use Rattle.script_text.specs.declared.reply.Reply.{Reply}
@@ -38,7 +39,7 @@ over_reply p Unwritten reply over is = is
 over_reply p Stopped reply over is = is
 
 -- AN OPEN SWAP that was turned to its end, and its place
-module _ (before now : Seen) (old new : Control) (opens : List OpenSwap) (exp : List ℕ) (works : WorksWith before old opens) (told : Progress) (h : HasEndedIn old.lab works.pairs exp before now new.journal told new.swaps new.lab) where
+module _ (before now : Seen) (old new : Control) (opens : List OpenSwap) (exp : List ℕ) (works : WorksWith before old opens) (told : Progress) (h : HasEndedIn old.lab works.pairs exp before now old.journal new.journal told new.swaps new.lab) where
   abbrev x : Pair
   x = (h.end.swap, h.end.state)
 
@@ -118,19 +119,19 @@ module _ (before now : Seen) (old new : Control) (opens : List OpenSwap) (exp : 
     EndLeads outcome = Leads devices before now (Is (Ok (Finish exp))) old new opens end_to place.one.running.swap exp h.end.finished.steps h.end.finished.told h.end.finished.sound h.end.finished.later limit
         (λ outcome. (open_without opens place.front place.one place.rest place.are, λ gone q has. apart before now old new opens exp works h.end.before h.end.behind x h.end.opens_are h.end.named q has)) EndIs end_done outcome
 
-    leads_by : (outcome : Outcome) → IsOver outcome → Goes outcome → FinishLeaves the_texts old.lab h.end.swap before now new.journal h.end.finished.steps outcome → EndLeads outcome
-    leads_by More over goes leaves = absurd over
-    leads_by (TurnsBack why) over goes leaves = absurd over
-    leads_by (Ended leg) over goes leaves = (ends_from (Ended leg) h.end.finished.steps new.lab goes.0, end_works goes.1)
-    leads_by (Stuck why) over goes leaves = (ends_from (Stuck why) h.end.finished.steps new.lab goes.0, end_works goes.1)
-    leads_by Unwritten over goes leaves = closes_as the_texts before.told h.end.finished.steps _ _ (λ lab all. ends_from Unwritten h.end.finished.steps lab all) leaves
-    leads_by Stopped over goes leaves = closes_as the_texts before.told h.end.finished.steps _ _ (λ lab all. ends_from Stopped h.end.finished.steps lab all) leaves
+    leads_by : (outcome : Outcome) → IsOver outcome → Goes outcome → IfGoesOn outcome (IsLonger old.journal new.journal h.end.finished.steps) → FinishLeaves the_texts old.lab h.end.swap before now new.journal h.end.finished.steps outcome → EndLeads outcome
+    leads_by More over goes longer leaves = absurd over
+    leads_by (TurnsBack why) over goes longer leaves = absurd over
+    leads_by (Ended leg) over goes longer leaves = (ends_from (Ended leg) h.end.finished.steps new.lab goes.0, end_works goes.1, longer)
+    leads_by (Stuck why) over goes longer leaves = (ends_from (Stuck why) h.end.finished.steps new.lab goes.0, end_works goes.1, longer)
+    leads_by Unwritten over goes longer leaves = closes_as the_texts before.told h.end.finished.steps _ _ (λ lab all. ends_from Unwritten h.end.finished.steps lab all) leaves
+    leads_by Stopped over goes longer leaves = closes_as the_texts before.told h.end.finished.steps _ _ (λ lab all. ends_from Stopped h.end.finished.steps lab all) leaves
 
     -- IT IS GONE, and each other is as it was
     pub ended : Obeyed devices before now (Is (Ok (Finish exp))) old new opens (Some exp) (progress_answer exp told)
     ended =
         by_outcome devices before now (Is (Ok (Finish exp))) old new opens end_to place.one.running.swap exp h.end.finished.steps h.end.finished.told h.end.finished.sound h.end.finished.later limit
-        (λ outcome. (open_without opens place.front place.one place.rest place.are, λ gone q has. apart before now old new opens exp works h.end.before h.end.behind x h.end.opens_are h.end.named q has)) EndIs end_done h.end.finished.outcome (leads_by h.end.finished.outcome h.end.finished.over h.goes h.end.finished.leaves)
+        (λ outcome. (open_without opens place.front place.one place.rest place.are, λ gone q has. apart before now old new opens exp works h.end.before h.end.behind x h.end.opens_are h.end.named q has)) EndIs end_done h.end.finished.outcome (leads_by h.end.finished.outcome h.end.finished.over h.goes h.end.finished.longer h.end.finished.leaves)
         (subst (λ (n : ℕ). IsCausedSince h.end.finished.outcome n before now) (sym (counted before now old new opens exp works h.end.before h.end.behind x h.end.opens_are h.end.named devices)) cause_since) cause_now
         (λ halted. stops.0 (end_halts.0 halted)) (λ stopped. end_halts.1 (stops.1 stopped)) (progress_answer exp told)
         (subst (λ (o : RunningSwap). IsAnswer o.swap h.end.finished.outcome (progress_answer exp told)) (sym place.running) (end_answer h.end.finished.outcome refl))

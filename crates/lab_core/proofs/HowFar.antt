@@ -6,6 +6,7 @@ use Rattle.plant.specs.Seen.{Seen}
 use Rattle.plant.specs.Told.{with_steps}
 use Rattle.records_model.specs.Works.{IsSound}
 use Rattle.lab_state.specs.Texts.{the_texts}
+use Rattle.swap_turns.specs.Lengths.{IsLonger}
 use Rattle.journal_disk.specs.Standing.{limit_of}
 use Rattle.script_text.specs.Replies.{blames_device, closes}
 use Rattle.script_text.specs.declared.reply.Reply.{Reply}
@@ -37,6 +38,7 @@ pub record HasComeTo {X : Type 0} (l : Listing X) (o : Origin X) (exp : Option (
   pub sound : IfSome o.before.told (λ t. IsSound the_texts t.trace → IsSound the_texts (t.trace ++ own))
   pub works : WorksWith now new to
   pub limit : limit_of new.journal ≡ limit_of o.old.journal
+  pub longer : IsLonger o.old.journal new.journal own
   pub opened : WereOpen o.opens to
   pub device : blames_device (l.whole at) ≡ true → Rose (counted_from o.opens exp o.devices) now.faults.devices
   pub here : blames_now (l.whole at) ≡ true → Rose o.before.faults.devices now.faults.devices

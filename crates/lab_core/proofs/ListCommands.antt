@@ -50,6 +50,7 @@ module _ (A B : Doing) (V W : Wanting) (each : (trace : Option (List Event)) (ow
     );
     works = h.works;
     limit = h.limit;
+    longer = h.longer;
     opened = h.opened;
     down = h.down;
     device = h.device;

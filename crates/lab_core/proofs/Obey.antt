@@ -18,6 +18,8 @@ use Rattle.script_text.specs.declared.reply.Reply.{Reply}
 use Rattle.script_text.specs.declared.reply.Reply.TheVariants as replies
 use Rattle.swap_turns.specs.Causes.{IsLater}
 use Rattle.swap_turns.specs.Closing.{Closes}
+use Rattle.swap_turns.specs.Lengths.{IsLonger}
+use Rattle.swap_turns.proofs.Lengths.{longer_none}
 use Rattle.swap_turns.proofs.Closing.{Images}
 use Rattle.plant.specs.Seen.{Seen}
 use Rattle.plant.proofs.Traces.{with_steps-nil}
@@ -117,13 +119,15 @@ module _ (devices : ℕ) (before now : Seen) (IsJudged : Result Task Reply → T
   steps_by result ends = (own, told, record { ends = ends; sound = in_trace before.told (λ t. IsSound the_texts t → IsSound the_texts (t ++ own)) sound })
 
   -- IT GOES ON
-  pub goes_on : (reply : Reply) → closes reply ≡ false → AreOpenedBy exp (Some reply) opens to devices → IsDone IsJudged start own (Some reply) new.lab (Open to) → WorksWith now new to
+  pub goes_on : (reply : Reply) → closes reply ≡ false → AreOpenedBy exp (Some reply) opens to devices → IsDone IsJudged start own (Some reply) new.lab (Open to) → WorksWith now new to → IsLonger old.journal new.journal own
       → (blames_device reply ≡ true → Rose (counted_from opens exp devices) now.faults.devices) → (blames_now reply ≡ true → Rose before.faults.devices now.faults.devices) → RunsOn before now → Left (Ok reply)
-  goes_on reply open_still opened done works blames here runs = record {
+  unfolding steps_by
+  goes_on reply open_still opened done works longer blames here runs = record {
     to = to;
     obeys = steps_by (Ok reply) (subst (λ b. Answers (trace_in before.told) IsJudged start own reply new.lab to b) (sym open_still) done);
     works = λ _. works;
     limit = limit;
+    longer = λ _. longer;
     opened = opened;
     down = λ closing. never_both (closes reply) closing open_still;
     device = blames;
@@ -134,12 +138,14 @@ module _ (devices : ℕ) (before now : Seen) (IsJudged : Result Task Reply → T
   }
 
   -- MEMORY WAS WANTING
-  pub wants : WereOpen opens to → WantsIn IsJudged start own new.lab to → WorksWith now new to → RunsOn before now → Left (Err faults.Memory)
-  wants were done works runs = record {
+  pub wants : WereOpen opens to → WantsIn IsJudged start own new.lab to → WorksWith now new to → IsLonger old.journal new.journal own → RunsOn before now → Left (Err faults.Memory)
+  unfolding steps_by
+  wants were done works longer runs = record {
     to = to;
     obeys = steps_by (Err faults.Memory) done;
     works = λ _. works;
     limit = limit;
+    longer = λ _. longer;
     opened = as_open exp None opens to devices (λ o has. refl) were;
     down = tt;
     device = tt;
@@ -170,6 +176,7 @@ module _ (devices : ℕ) (before now : Seen) (IsJudged : Result Task Reply → T
     obeys = steps_by (Ok reply) (subst (λ b. Answers (trace_in before.told) IsJudged start own reply new.lab to b) (sym closing) (leaves Is closed reply (λ a b. []) (λ lab is a b. done lab is)));
     works = λ going. false_true (subst (λ b. not b ≡ true) closing going);
     limit = limit;
+    longer = λ going. false_true (subst (λ b. not b ≡ true) closing going);
     opened = as_open exp (Some reply) opens to devices (λ o has. shut_ends reply (name_in o) closing) were;
     down = λ _. rose;
     device = λ blaming. never_both (blames_device reply) blaming mild;
@@ -187,6 +194,7 @@ module _ (devices : ℕ) (before now : Seen) (IsJudged : Result Task Reply → T
     obeys = steps_by (Err faults.Stopped) (leaves Is closed replies.Stopped (λ a b. Restarted a b ∷ []) done);
     works = λ going. false_true going;
     limit = limit;
+    longer = λ going. false_true going;
     opened = as_open exp None opens to devices (λ o has. refl) were;
     down = tt;
     device = tt;
@@ -216,7 +224,7 @@ same_open opens = λ o has. (o, has, refl, refl)
 pub replied : (devices : ℕ) (before : Seen) (IsJudged : Result Task Reply → Type 0) (c : Control) (opens : List OpenSwap) (exp : Option (List ℕ)) (reply : Reply) → WorksWith before c opens → IsMild reply
     → IsDone IsJudged (start_of devices c opens) [] (Some reply) c.lab (Open opens) → Obeyed devices before before IsJudged c c opens exp (Ok reply)
 replied devices before IsJudged c opens exp reply works mild done =
-    goes_on devices before before IsJudged c c opens opens exp [] (with_steps-nil before.told) (sound_still before.told) (same_later before) refl reply mild.0 (as_open exp (Some reply) opens opens devices (λ o has. calm_ends reply (name_in o) mild.2) (same_open opens)) done works (λ blaming. never_both (blames_device reply) blaming mild.1)
+    goes_on devices before before IsJudged c c opens opens exp [] (with_steps-nil before.told) (sound_still before.told) (same_later before) refl reply mild.0 (as_open exp (Some reply) opens opens devices (λ o has. calm_ends reply (name_in o) mild.2) (same_open opens)) done works (longer_none c.journal) (λ blaming. never_both (blames_device reply) blaming mild.1)
     (λ blaming. never_both (blames_device reply) (now_blames reply blaming) mild.1)
     (λ ran stopped. never_both before.stopped stopped ran)
 
@@ -228,7 +236,7 @@ refuses devices before IsJudged c opens exp reply works is = replied devices bef
 -- memory was wanting
 pub wanted : (devices : ℕ) (before : Seen) (IsJudged : Result Task Reply → Type 0) (c : Control) (opens : List OpenSwap) (exp : Option (List ℕ)) → WorksWith before c opens → Obeyed devices before before IsJudged c c opens exp (Err faults.Memory)
 wanted devices before IsJudged c opens exp works =
-    wants devices before before IsJudged c c opens opens exp [] (with_steps-nil before.told) (sound_still before.told) (same_later before) refl (same_open opens) (undone refl refl refl) works
+    wants devices before before IsJudged c c opens opens exp [] (with_steps-nil before.told) (sound_still before.told) (same_later before) refl (same_open opens) (undone refl refl refl) works (longer_none c.journal)
     (λ ran stopped. never_both before.stopped stopped ran)
 
 -- WHAT IS JUDGED in other words
@@ -266,6 +274,7 @@ module _ (A B : Result Task Reply → Type 0) (each : (j : Result Task Reply) �
         );
         works = h.works;
         limit = h.limit;
+        longer = h.longer;
         opened = h.opened;
         down = h.down;
         device = h.device;

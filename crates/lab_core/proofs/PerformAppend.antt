@@ -32,7 +32,7 @@ use Rattle.plant.specs.Seen.{Seen}
 use Rattle.swap_txn.specs.Steps.{Stands as PlantStands, Writes}
 use Rattle.swap_turns.specs.Causes.{IsLater}
 use Rattle.swap_turns.specs.Closing.{Closes}
-use Rattle.swap_turns.proofs.Appending.{steps_of, stands_after, left_over}
+use Rattle.swap_turns.proofs.Appending.{steps_of, longer_by, stands_after, left_over}
 use Rattle.swap_turns.proofs.Closing.{Images}
 use Rattle.swap_turns.specs.Running.{OpenSwap as RunningSwap, AtWork, IsOpen, IsRunning, Stands}
 use Rattle.swap_turns.proofs.Keeping.{record_keeps}
@@ -226,7 +226,7 @@ module _ (devices : ℕ) (exp : Option (List ℕ)) (before now : Seen) (c new : 
   -- WHATEVER IT ANSWERED
   pub left : (a : Result (Unit {0}) AppendFault) → answer ≡ a → OnOk a (new.lab ≡ state) → Obeyed devices before now Judges c new opens exp (append_answer reply a)
   left (Ok ok) is lab =
-      goes_on devices before now Judges c new opens opens exp own writes.appends.trace sound later writes.limit reply can.mild.0 (as_open exp (Some reply) opens opens devices (λ o has. calm_ends reply (name_in o) can.mild.2) (same_open opens)) (done ok is lab) (works_in ok is lab)
+      goes_on devices before now Judges c new opens opens exp own writes.appends.trace sound later writes.limit reply can.mild.0 (as_open exp (Some reply) opens opens devices (λ o has. calm_ends reply (name_in o) can.mild.2) (same_open opens)) (done ok is lab) (works_in ok is lab) (longer_by entry before now c.journal new.journal answer writes ok is)
       (λ blaming. never_both _ blaming can.mild.1) (λ blaming. never_both _ (now_blames reply blaming) can.mild.1) (runs (Ok ok) is (λ h. cc h))
   left (Err appending.Plant) is lab =
       let ends = ends_as (Err appending.Plant) is in

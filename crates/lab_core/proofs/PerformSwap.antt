@@ -24,6 +24,7 @@ use Rattle.lab_state.specs.Texts.{the_texts}
 use Rattle.swap_txn.specs.Troubles.{what_of}
 use Rattle.swap_turns.specs.Causes.{IsCaused, IsLater}
 use Rattle.swap_turns.specs.Closing.{Closes}
+use Rattle.swap_turns.specs.Lengths.{IsLonger}
 use Rattle.swap_turns.specs.Legs.{Forth, Undo, Settling}
 use Rattle.swap_turns.specs.Swaps.{Swap as SwapOf}
 use Rattle.swap_turns.specs.Turning.{Outcome, More, TurnsBack, Ended, Stuck, Unwritten, Stopped}
@@ -138,13 +139,13 @@ module _ (devices : ℕ) (before now : Seen) (IsJudged : Result Task Reply → T
   abbrev pub Leads : Outcome → Type 0
   Leads Unwritten = Closes the_texts before.told steps (λ steps lab. Is Unwritten steps lab)
   Leads Stopped = Closes the_texts before.told steps (λ steps lab. Is Stopped steps lab)
-  Leads outcome = Is outcome steps new.lab × WorksWith now new (to outcome)
+  Leads outcome = Is outcome steps new.lab × WorksWith now new (to outcome) × IsLonger old.journal new.journal steps
 
   on : (outcome : Outcome) (reply : Reply) → ((o : OpenSwap) → Has (to outcome) o → ends_swap (Some reply) (name_in o) ≡ false) → closes reply ≡ false → turn_reply p outcome ≡ Some reply → Open (to outcome) ≡ end_session (to outcome) outcome → StartsBehind outcome [] → (blames_device reply ≡ true → Rose (counted_from opens (Some exp) devices) now.faults.devices)
-      → (blames_now reply ≡ true → Rose before.faults.devices now.faults.devices) → Is outcome steps new.lab × WorksWith now new (to outcome) → (now.stopped ≡ true → ⊥) → Left (Ok reply)
+      → (blames_now reply ≡ true → Rose before.faults.devices now.faults.devices) → Is outcome steps new.lab × WorksWith now new (to outcome) × IsLonger old.journal new.journal steps → (now.stopped ≡ true → ⊥) → Left (Ok reply)
   on outcome reply stays goes reply_is session_is starts blame here is running =
       goes_on devices before now IsJudged old new opens (to outcome) (Some exp) steps told sound later limit reply goes (as_open (Some exp) (Some reply) opens (to outcome) devices stays (were outcome).0)
-      (subst (λ (l : List Event). IsDone IsJudged (start_of devices old opens) l (Some reply) new.lab (Open (to outcome))) (append-nil steps) (done outcome new.lab [] reply (Open (to outcome)) is.0 starts reply_is session_is)) is.1 blame here (λ _. running)
+      (subst (λ (l : List Event). IsDone IsJudged (start_of devices old opens) l (Some reply) new.lab (Open (to outcome))) (append-nil steps) (done outcome new.lab [] reply (Open (to outcome)) is.0 starts reply_is session_is)) is.1 is.2 blame here (λ _. running)
 
   -- the answer has that reply
   answered : (outcome : Outcome) (reply : Reply) (result : Result Reply CoreFault) → (r : Reply) × (turn_reply p outcome ≡ Some r) × (result ≡ Ok r) → turn_reply p outcome ≡ Some reply → Left (Ok reply) → Left result

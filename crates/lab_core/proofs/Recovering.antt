@@ -93,7 +93,7 @@ module _ (devices : ℕ) (exp : Option (List ℕ)) (before now : Seen) (old new 
       never_both (is_busy busy p.name)
       (has_busy busy p.name (subst (λ (n : List ℕ). Has busy n) (named_open old.lab q.0 q.1 (works.working.each q has) ∙ is) (names.each q.1 (works.holds.stands q has)))) idle
 
-  works_by : (swaps : List Swap) (outcomes : List Outcome) → ((p : Swap) → Has swaps p → is_busy busy p.name ≡ false) → HasSettled the_texts old.lab swaps before now new.journal outcomes new.lab → WorksWith now new opens
+  works_by : (swaps : List Swap) (outcomes : List Outcome) → ((p : Swap) → Has swaps p → is_busy busy p.name ≡ false) → HasSettled the_texts old.lab swaps before now old.journal new.journal outcomes new.lab → WorksWith now new opens
   works_by swaps outcomes idle h = record {
     pairs = works.pairs;
     are = works.are;
@@ -103,21 +103,21 @@ module _ (devices : ℕ) (exp : Option (List ℕ)) (before now : Seen) (old new 
   }
 
   -- all were settled
-  all_recovered : (all : Settled) → SettledAll the_texts old.lab busy before now new.journal new.lab all → limit_of new.journal ≡ limit_of old.journal → RunsOn before now
+  all_recovered : (all : Settled) → SettledAll the_texts old.lab busy before now old.journal new.journal new.lab all → limit_of new.journal ≡ limit_of old.journal → RunsOn before now
       → Obeyed devices before now (Is (Ok Recover)) old new opens exp (Ok (replies.Recovered all.done all.stuck))
   all_recovered all is limit runs =
       let h = is.has in
       goes_on devices before now (Is (Ok Recover)) old new opens opens exp h.steps h.told h.sound h.later limit (replies.Recovered all.done all.stuck) refl (as_open exp (Some (replies.Recovered all.done all.stuck)) opens opens devices (λ o has. refl) (same_open opens))
       (does (Ok Recover) refl (settled is.outcomes (subst (λ (l : List Swap). Settles old.lab l is.outcomes h.steps new.lab) all_same h.settled) (λ i. Some (replies.Recovered (is.counts.done i) (is.counts.stuck i))) refl))
-      (works_by (swaps_of busy old.lab.experiments) is.outcomes (λ p has. due_idle busy old.lab.experiments p has) h) (λ blaming. false_true blaming) (λ blaming. false_true blaming) runs
+      (works_by (swaps_of busy old.lab.experiments) is.outcomes (λ p has. due_idle busy old.lab.experiments p has) h) h.longer (λ blaming. false_true blaming) (λ blaming. false_true blaming) runs
 
   -- memory was wanting
-  some_recovered : SettledSome the_texts old.lab busy before now new.journal new.lab → limit_of new.journal ≡ limit_of old.journal → RunsOn before now → Obeyed devices before now (Is (Ok Recover)) old new opens exp (Err faults.Memory)
+  some_recovered : SettledSome the_texts old.lab busy before now old.journal new.journal new.lab → limit_of new.journal ≡ limit_of old.journal → RunsOn before now → Obeyed devices before now (Is (Ok Recover)) old new opens exp (Err faults.Memory)
   some_recovered first limit runs =
       let h = first.has in
       wants devices before now (Is (Ok Recover)) old new opens opens exp h.steps h.told h.sound h.later limit (same_open opens)
       (between refl (record { past = first.past; rest = first.rest; all = sym all_same ∙ first.all; outcomes = first.outcomes; settles = h.settled }) refl)
-      (works_by first.past first.outcomes (λ p has. due_idle busy old.lab.experiments p (subst (λ (l : List Swap). Has l p) (sym first.all) (Has-left first.past first.rest p has))) h) runs
+      (works_by first.past first.outcomes (λ p has. due_idle busy old.lab.experiments p (subst (λ (l : List Swap). Has l p) (sym first.all) (Has-left first.past first.rest p has))) h) h.longer runs
 
   -- it broke off
   broken_so : (outcome : Outcome) (steps behind : List Event) (reply : Reply) → (behind ≡ []) ⊎ StartsBehind outcome behind → Breaks (steps ++ behind) (Some reply) → (lab : LabState) → Broken outcome steps lab
@@ -145,7 +145,7 @@ module _ (devices : ℕ) (exp : Option (List ℕ)) (before now : Seen) (old new 
   runs_by result not told = λ ran stop. not ((told ran).1 stop)
 
   pub recovered : limit_of new.journal ≡ limit_of old.journal → (result : Result Settled SettleFault) → (before.stopped ≡ false → IsErrOf result settling.Stopped ↔ IsTrue now.stopped)
-      → AfterAll the_texts old.lab busy before now new.journal new.lab result → Obeyed devices before now (Is (Ok Recover)) old new opens exp (recover_answer result)
+      → AfterAll the_texts old.lab busy before now old.journal new.journal new.lab result → Obeyed devices before now (Is (Ok Recover)) old new opens exp (recover_answer result)
   recovered limit (Ok all) told is = all_recovered all is limit (runs_by (Ok all) (λ h. cc h) told)
   recovered limit (Err settling.Memory) told is = some_recovered is limit (runs_by (Err settling.Memory) (λ h. cc h) told)
   recovered limit (Err settling.Plant) told is = down (as_due Unwritten is) limit (runs_by (Err settling.Plant) (λ h. cc h) told)

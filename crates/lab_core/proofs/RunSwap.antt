@@ -32,7 +32,9 @@ use Rattle.swap_turns.specs.Finishing.{Finishes, FinishLeaves, IsOver}
 use Rattle.swap_turns.specs.Records.{IsBroken, missed, nothing}
 use Rattle.swap_turns.specs.Running.{OpenSwap as RunningSwap}
 use Rattle.swap_turns.specs.Swaps.{Swap as SwapOf, Moves}
-use Rattle.swap_turns.specs.Turning.{Outcome, More, TurnsBack, Ended, Stuck, Unwritten, Stopped}
+use Rattle.swap_turns.specs.Lengths.{IsLonger}
+use Rattle.swap_turns.specs.Turning.{Outcome, More, TurnsBack, Ended, Stuck, Unwritten, Stopped, IfGoesOn}
+use Rattle.swap_turns.proofs.Lengths.{longer_on}
 use Rattle.swap_turns.specs.Whole as whole
 use Rattle.swap_turns.specs.Whole.{SwapSteps}
 use Rattle.swap_turns.specs.Causes.{IsCaused, IsLater}
@@ -227,7 +229,7 @@ module _ (devices : ℕ) (before now : Seen) (old new : Control) (opens : List O
       (subst (λ (l : List Event). IsDone (Is (Ok (BeginOnly exp way))) (start_of devices old opens) l (Some (replies.More exp)) new.lab (Open (begun_to More))) (append-nil h.begun.steps)
       (subst (λ (n : List ℕ). IsDone (Is (Ok (BeginOnly exp way))) (start_of devices old opens) (h.begun.steps ++ []) (Some (replies.More n)) new.lab (Open (begun_to More))) h.name
       (begun_done More new.lab [] (replies.More h.swap.name) (Open (begun_to More)) h.begun.begins refl refl refl)))
-      h.works (λ blaming. false_true blaming) (λ blaming. false_true blaming) (λ _. h.runs)
+      h.works h.begun.longer (λ blaming. false_true blaming) (λ blaming. false_true blaming) (λ _. h.runs)
 
 steps_over : (p : SwapOf) (s : LabState) (begin : Rattle.journal_rec.specs.declared.record.Record.Record) (move : Move) (steps : List Event) (lab : LabState) (outcome : Outcome) → SwapSteps p s begin move steps lab outcome → IsOver outcome
 steps_over p s begin move steps lab outcome (whole.begun b) = b.finishes.over
@@ -236,7 +238,7 @@ steps_over p s begin move steps lab outcome (whole.stopped broken is) = subst Is
 
 -- BEGUN, AND TURNED TO ITS END
 module _ (devices : ℕ) (before mid now : Seen) (old between new : Control) (opens : List OpenSwap) (exp : List ℕ) (way : Way) (works : WorksWith before old opens) (idle : HasOpen old.swaps exp → ⊥) (h : IsOpened devices before mid old between opens exp way) (told : Progress)
-    (f : HasEndedIn between.lab h.works.pairs exp mid now new.journal told new.swaps new.lab) (limit : limit_of new.journal ≡ limit_of between.journal) (stops : IsStop told ↔ IsTrue now.stopped) where
+    (f : HasEndedIn between.lab h.works.pairs exp mid now between.journal new.journal told new.swaps new.lab) (limit : limit_of new.journal ≡ limit_of between.journal) (stops : IsStop told ↔ IsTrue now.stopped) where
   abbrev last : OpenSwap
   last = begun_at h.swap devices
 
@@ -306,19 +308,23 @@ module _ (devices : ℕ) (before mid now : Seen) (old between new : Control) (op
       whole_done devices old opens exp way h.swap h.name h.move h.says h.moves h.space outcome all_steps lab behind reply session starts is
       (over_reply h.swap outcome reply (steps_over h.swap old.lab (Begin exp way) h.move all_steps lab outcome is) reply_is) session_is
 
+  all_longer : IsLonger between.journal new.journal end_steps → IsLonger old.journal new.journal all_steps
+  all_longer longer = longer_on old.journal between.journal new.journal h.begun.steps end_steps h.begun.longer longer
+
   all_limit : limit_of new.journal ≡ limit_of old.journal
   all_limit = limit ∙ h.begun.limit
 
   abbrev WholeLeads : Outcome → Type 0
   WholeLeads outcome = Leads devices before now (Is (Ok (Swap exp way))) old new opens whole_to h.swap exp all_steps all_told all_sound all_later all_limit (λ _. (same_open opens, λ gone q has same. apart q has (same ∙ h.name))) WholeIs whole_done' outcome
 
-  leads_by : (outcome : Outcome) → IsOver outcome → Rattle.lab_core.proofs.EndOne.Goes mid now between new more exp h.works told f outcome → FinishLeaves the_texts between.lab f.end.swap mid now new.journal end_steps outcome → WholeLeads outcome
-  leads_by More over goes leaves = absurd over
-  leads_by (TurnsBack why) over goes leaves = absurd over
-  leads_by (Ended leg) over goes leaves = (steps_as (Ended leg) new.lab goes.0, subst (λ (l : List OpenSwap). WorksWith now new l) left_are (end_works mid now between new more exp h.works told f goes.1))
-  leads_by (Stuck why) over goes leaves = (steps_as (Stuck why) new.lab goes.0, subst (λ (l : List OpenSwap). WorksWith now new l) left_are (end_works mid now between new more exp h.works told f goes.1))
-  leads_by Unwritten over goes leaves = closes Unwritten leaves
-  leads_by Stopped over goes leaves = closes Stopped leaves
+  leads_by : (outcome : Outcome) → IsOver outcome → Rattle.lab_core.proofs.EndOne.Goes mid now between new more exp h.works told f outcome → IfGoesOn outcome (IsLonger between.journal new.journal end_steps)
+      → FinishLeaves the_texts between.lab f.end.swap mid now new.journal end_steps outcome → WholeLeads outcome
+  leads_by More over goes longer leaves = absurd over
+  leads_by (TurnsBack why) over goes longer leaves = absurd over
+  leads_by (Ended leg) over goes longer leaves = (steps_as (Ended leg) new.lab goes.0, subst (λ (l : List OpenSwap). WorksWith now new l) left_are (end_works mid now between new more exp h.works told f goes.1), all_longer longer)
+  leads_by (Stuck why) over goes longer leaves = (steps_as (Stuck why) new.lab goes.0, subst (λ (l : List OpenSwap). WorksWith now new l) left_are (end_works mid now between new more exp h.works told f goes.1), all_longer longer)
+  leads_by Unwritten over goes longer leaves = closes Unwritten leaves
+  leads_by Stopped over goes longer leaves = closes Stopped leaves
 
   -- its causes came since it was opened, in this call
   causes : (outcome : Outcome) → IsCausedSince outcome devices mid now → IsCausedSince outcome devices before now
@@ -357,5 +363,5 @@ module _ (devices : ℕ) (before mid now : Seen) (old between new : Control) (op
   whole_swap =
       let halts = end_halts mid now between new more exp h.works told f in
       by_outcome devices before now (Is (Ok (Swap exp way))) old new opens whole_to h.swap exp all_steps all_told all_sound all_later all_limit (λ _. (same_open opens, λ gone q has same. apart q has (same ∙ h.name))) WholeIs whole_done' end_outcome
-      (leads_by end_outcome f.end.finished.over f.goes f.end.finished.leaves) (subst (λ (n : ℕ). IsCausedSince end_outcome n before now) (sym counted_here) caused_here) caused_now (λ halted. stops.0 (halts.0 halted)) (λ stopped. halts.1 (stops.1 stopped))
+      (leads_by end_outcome f.end.finished.over f.goes f.end.finished.longer f.end.finished.leaves) (subst (λ (n : ℕ). IsCausedSince end_outcome n before now) (sym counted_here) caused_here) caused_now (λ halted. stops.0 (halts.0 halted)) (λ stopped. halts.1 (stops.1 stopped))
       (progress_answer exp told) (subst (λ (o : RunningSwap). IsAnswer o.swap end_outcome (progress_answer exp told)) swap_is (end_answer mid now between new more exp h.works told f end_outcome refl))

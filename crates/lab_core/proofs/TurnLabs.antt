@@ -10,9 +10,9 @@ use Rattle.swap_txn.specs.declared.live.Live.{Live}
 use Rattle.swap_turns.specs.Swaps.{Swap as SwapOf}
 use Rattle.swap_turns.specs.Finishing.{Finishes}
 use Rattle.swap_turns.specs.Running.{OpenSwap as RunningSwap, Working}
-use Rattle.swap_turns.specs.Turning.{Outcome, More, TurnsBack, Ended, Stuck, Unwritten, Stopped, TurnSteps}
+use Rattle.swap_turns.specs.Turning.{Outcome, More, TurnsBack, Ended, Stuck, Unwritten, Stopped, IfGoesOn, TurnSteps}
 use Rattle.swap_turns.proofs.Finishing.{onward_swap}
-use Rattle.swap_mgr.specs.Managing.{HasTurned, HasTurnedToEnd, IfGoesOn}
+use Rattle.swap_mgr.specs.Managing.{HasTurned, HasTurnedToEnd}
 use Rattle.swap_mgr.specs.declared.progress.Progress.{Progress}
 use Rattle.swap_mgr.specs.declared.progress.Progress.TheVariants as progress
 use Rattle.swap_mgr.specs.Turns.{end_of}
@@ -34,30 +34,30 @@ module _ (Is : Outcome → LabState → Type 0) (Works : LabState → Type 0) (l
   goes_in Stopped same a = tt
 
 -- A TURN
-module _ (s : LabState) (pairs : List (RunningSwap × Live)) (exp : List ℕ) (was now : Seen) (k : Journal) (told : Progress) (new : List Live) (h : HasTurned the_texts s pairs exp was now k told new) where
+module _ (s : LabState) (pairs : List (RunningSwap × Live)) (exp : List ℕ) (was now : Seen) (j k : Journal) (told : Progress) (new : List Live) (h : HasTurned the_texts s pairs exp was now j k told new) where
   abbrev turn_works : LabState → Type 0
   turn_works after = Working the_texts now.told k after (h.before ++ (h.next ++ h.behind))
 
   turned_lab : (lab : LabState) → EndsBy s exp (end_of told) lab → (h.outcome ≡ Unwritten → ⊥) → (h.outcome ≡ Stopped → ⊥) → (after : LabState) → TurnSteps s h.swap h.steps h.outcome after → after ≡ lab
   turned_lab lab ended written going after turn = same_lab s h.swap exp h.named h.steps told h.outcome (tells_of h.swap told h.outcome h.is_told) written going after lab turn ended
 
-  pub turned_in : (lab : LabState) → EndsBy s exp (end_of told) lab → HasTurnedIn s pairs exp was now k told new lab
+  pub turned_in : (lab : LabState) → EndsBy s exp (end_of told) lab → HasTurnedIn s pairs exp was now j k told new lab
   turned_in lab ended = record { turn = h; goes = goes_in (λ outcome after. TurnSteps s h.swap h.steps outcome after) turn_works lab h.outcome (turned_lab lab ended) h.all }
 
-can_end_turn_over : (s : LabState) (pairs : List (RunningSwap × Live)) (exp : List ℕ) (was now : Seen) (k : Journal) (over : Over) (new : List Live) → HasTurned the_texts s pairs exp was now k (progress.Ended over) new → CanEnd s exp over.committed
-can_end_turn_over s pairs exp was now k over new h =
+can_end_turn_over : (s : LabState) (pairs : List (RunningSwap × Live)) (exp : List ℕ) (was now : Seen) (j k : Journal) (over : Over) (new : List Live) → HasTurned the_texts s pairs exp was now j k (progress.Ended over) new → CanEnd s exp over.committed
+can_end_turn_over s pairs exp was now j k over new h =
     let a = subst (λ (x : Outcome). IfGoesOn x ((after : LabState) × TurnSteps s h.swap h.steps x after × Working the_texts now.told k after (h.before ++ (h.next ++ h.behind)))) h.is_told.outcome_is h.all in
     (a.0, ended_as s h.swap exp h.named h.steps over h.swap.leg a.0 h.is_told.committed a.1)
 
-pub can_end_turn : (s : LabState) (pairs : List (RunningSwap × Live)) (exp : List ℕ) (was now : Seen) (k : Journal) (told : Progress) (new : List Live) → HasTurned the_texts s pairs exp was now k told new → CanEndBy s exp (end_of told)
-can_end_turn s pairs exp was now k progress.More new h = tt
-can_end_turn s pairs exp was now k (progress.Trouble what) new h = tt
-can_end_turn s pairs exp was now k (progress.Ended over) new h = can_end_turn_over s pairs exp was now k over new h
-can_end_turn s pairs exp was now k (progress.Stuck what) new h = tt
-can_end_turn s pairs exp was now k progress.Stopped new h = tt
+pub can_end_turn : (s : LabState) (pairs : List (RunningSwap × Live)) (exp : List ℕ) (was now : Seen) (j k : Journal) (told : Progress) (new : List Live) → HasTurned the_texts s pairs exp was now j k told new → CanEndBy s exp (end_of told)
+can_end_turn s pairs exp was now j k progress.More new h = tt
+can_end_turn s pairs exp was now j k (progress.Trouble what) new h = tt
+can_end_turn s pairs exp was now j k (progress.Ended over) new h = can_end_turn_over s pairs exp was now j k over new h
+can_end_turn s pairs exp was now j k (progress.Stuck what) new h = tt
+can_end_turn s pairs exp was now j k progress.Stopped new h = tt
 
 -- TURNED TO ITS END
-module _ (s : LabState) (pairs : List (RunningSwap × Live)) (exp : List ℕ) (was now : Seen) (k : Journal) (told : Progress) (new : List Live) (h : HasTurnedToEnd the_texts s pairs exp was now k told new) where
+module _ (s : LabState) (pairs : List (RunningSwap × Live)) (exp : List ℕ) (was now : Seen) (j k : Journal) (told : Progress) (new : List Live) (h : HasTurnedToEnd the_texts s pairs exp was now j k told new) where
   abbrev end_works : LabState → Type 0
   end_works after = Working the_texts now.told k after (h.before ++ h.behind)
 
@@ -69,11 +69,11 @@ module _ (s : LabState) (pairs : List (RunningSwap × Live)) (exp : List ℕ) (w
       let at_is : f.at.swap ≡ h.swap.swap = onward_swap s h.swap f.front f.at f.onward in
       same_lab s f.at exp (ap (λ (p : SwapOf). p.name) at_is ∙ h.named) f.behind told h.finished.outcome (tells_at f.at.swap at_is) written going after lab f.turn ended
 
-  pub ended_in : (lab : LabState) → EndsBy s exp (end_of told) lab → HasEndedIn s pairs exp was now k told new lab
+  pub ended_in : (lab : LabState) → EndsBy s exp (end_of told) lab → HasEndedIn s pairs exp was now j k told new lab
   ended_in lab ended = record { end = h; goes = goes_in (λ outcome after. Finishes s h.swap h.finished.steps outcome after) end_works lab h.finished.outcome (ended_lab lab ended) h.all }
 
-can_end_over : (s : LabState) (pairs : List (RunningSwap × Live)) (exp : List ℕ) (was now : Seen) (k : Journal) (over : Over) (new : List Live) → HasTurnedToEnd the_texts s pairs exp was now k (progress.Ended over) new → CanEnd s exp over.committed
-can_end_over s pairs exp was now k over new h =
+can_end_over : (s : LabState) (pairs : List (RunningSwap × Live)) (exp : List ℕ) (was now : Seen) (j k : Journal) (over : Over) (new : List Live) → HasTurnedToEnd the_texts s pairs exp was now j k (progress.Ended over) new → CanEnd s exp over.committed
+can_end_over s pairs exp was now j k over new h =
     let told = h.finished.is_told in
     let a = subst (λ (x : Outcome). IfGoesOn x ((after : LabState) × Finishes s h.swap h.finished.steps x after × Working the_texts now.told k after (h.before ++ h.behind))) told.outcome_is h.all in
     let at_is : a.1.at.swap ≡ h.swap.swap = onward_swap s h.swap a.1.front a.1.at a.1.onward in (
@@ -82,9 +82,9 @@ can_end_over s pairs exp was now k over new h =
           (told.committed ∙ ap (λ (p : SwapOf). Rattle.swap_turns.specs.Legs.commits p h.finished.at.leg) (h.finished.swap_is ∙ sym at_is)) a.1.turn,
     )
 
-pub can_end : (s : LabState) (pairs : List (RunningSwap × Live)) (exp : List ℕ) (was now : Seen) (k : Journal) (told : Progress) (new : List Live) → HasTurnedToEnd the_texts s pairs exp was now k told new → CanEndBy s exp (end_of told)
-can_end s pairs exp was now k progress.More new h = tt
-can_end s pairs exp was now k (progress.Trouble what) new h = tt
-can_end s pairs exp was now k (progress.Ended over) new h = can_end_over s pairs exp was now k over new h
-can_end s pairs exp was now k (progress.Stuck what) new h = tt
-can_end s pairs exp was now k progress.Stopped new h = tt
+pub can_end : (s : LabState) (pairs : List (RunningSwap × Live)) (exp : List ℕ) (was now : Seen) (j k : Journal) (told : Progress) (new : List Live) → HasTurnedToEnd the_texts s pairs exp was now j k told new → CanEndBy s exp (end_of told)
+can_end s pairs exp was now j k progress.More new h = tt
+can_end s pairs exp was now j k (progress.Trouble what) new h = tt
+can_end s pairs exp was now j k (progress.Ended over) new h = can_end_over s pairs exp was now j k over new h
+can_end s pairs exp was now j k (progress.Stuck what) new h = tt
+can_end s pairs exp was now j k progress.Stopped new h = tt

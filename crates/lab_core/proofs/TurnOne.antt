@@ -10,11 +10,12 @@ use Rattle.records_model.specs.Labs.{LabState}
 use Rattle.lab_state.specs.Texts.{the_texts}
 use Rattle.swap_turns.specs.Causes.{IsLater}
 use Rattle.swap_turns.specs.Finishing.{WasCaused}
+use Rattle.swap_turns.specs.Lengths.{IsLonger}
 use Rattle.swap_turns.specs.Legs.{Leg, Forth, Undo, Settling}
 use Rattle.swap_turns.specs.Running.{OpenSwap as RunningSwap, Working}
 use Rattle.swap_turns.specs.Swaps.{Moves}
-use Rattle.swap_turns.specs.Turning.{Outcome, More, TurnsBack, Ended, Stuck, Unwritten, Stopped, TurnSteps, Leaves, IsOutcomeCaused, open_after}
-use Rattle.swap_mgr.specs.Managing.{Holds, IfGoesOn, IsPlain}
+use Rattle.swap_turns.specs.Turning.{Outcome, More, TurnsBack, Ended, Stuck, Unwritten, Stopped, IfGoesOn, TurnSteps, Leaves, IsOutcomeCaused, open_after}
+use Rattle.swap_mgr.specs.Managing.{Holds, IsPlain}
 use Rattle.swap_mgr.specs.Turns.{IsStop}
 use Rattle.swap_mgr.specs.declared.progress.Progress.{Progress}
 use Rattle.script_text.specs.declared.reply.Reply.{Reply}
@@ -95,7 +96,7 @@ module _ (before now : Seen) (old new : Control) (opens : List OpenSwap) (exp : 
     works_with = record { pairs = a ++ (next ++ b); are = are_then; working = working; holds = holds; since = since_all }
 
 -- A TURN
-module _ (devices : ℕ) (before now : Seen) (old new : Control) (opens : List OpenSwap) (exp : List ℕ) (works : WorksWith before old opens) (told : Progress) (h : HasTurnedIn old.lab works.pairs exp before now new.journal told new.swaps new.lab)
+module _ (devices : ℕ) (before now : Seen) (old new : Control) (opens : List OpenSwap) (exp : List ℕ) (works : WorksWith before old opens) (told : Progress) (h : HasTurnedIn old.lab works.pairs exp before now old.journal new.journal told new.swaps new.lab)
     (limit : limit_of new.journal ≡ limit_of old.journal) (stops : IsStop told ↔ IsTrue now.stopped) where
   abbrev x : Pair
   x = (h.turn.swap, h.turn.state)
@@ -168,13 +169,16 @@ module _ (devices : ℕ) (before now : Seen) (old new : Control) (opens : List O
           turn_leaves TurnIs turn_done outcome leads
           (subst (λ (n : ℕ). IsCausedSince outcome n before now) (sym count_is) cause) here (λ h'. stops.0 (halts.0 (subst Halts (sym is) h'))) (λ h'. subst Halts is (halts.1 (stops.1 h'))) (progress_answer exp told) (answer outcome is)
 
+      longer : (outcome : Outcome) → h.turn.outcome ≡ outcome → IfGoesOn outcome (IsLonger old.journal new.journal h.turn.steps)
+      longer outcome is = subst (λ (o : Outcome). IfGoesOn o (IsLonger old.journal new.journal h.turn.steps)) is h.turn.longer
+
       by : (outcome : Outcome) → h.turn.outcome ≡ outcome → Goes outcome → Leaves the_texts old.lab h.turn.swap before now new.journal h.turn.steps outcome → IsOutcomeCaused outcome before now → Obeyed devices before now (Is (Ok (Turn exp))) old new opens (Some exp) (progress_answer exp told)
-      by More is goes leaves cause = left More is (steps_as More h.turn.steps new.lab goes.0, turn_works More is goes.1) tt tt
-      by (TurnsBack why) is goes leaves cause = left (TurnsBack why) is (steps_as (TurnsBack why) h.turn.steps new.lab goes.0, turn_works (TurnsBack why) is goes.1) (risen_by why place.one.devices before now turn_since.later cause) cause
+      by More is goes leaves cause = left More is (steps_as More h.turn.steps new.lab goes.0, turn_works More is goes.1, longer More is) tt tt
+      by (TurnsBack why) is goes leaves cause = left (TurnsBack why) is (steps_as (TurnsBack why) h.turn.steps new.lab goes.0, turn_works (TurnsBack why) is goes.1, longer (TurnsBack why) is) (risen_by why place.one.devices before now turn_since.later cause) cause
       by (Ended leg) is goes leaves cause =
-          left (Ended leg) is (steps_as (Ended leg) h.turn.steps new.lab goes.0, turn_works (Ended leg) is goes.1)
+          left (Ended leg) is (steps_as (Ended leg) h.turn.steps new.lab goes.0, turn_works (Ended leg) is goes.1, longer (Ended leg) is)
           (turn_caused place.one leg before now h.turn.later.devices turn_since (ap (λ (o : RunningSwap). o.leg) place.running ∙ goes.0.1)) tt
-      by (Stuck why) is goes leaves cause = left (Stuck why) is (steps_as (Stuck why) h.turn.steps new.lab goes.0, turn_works (Stuck why) is goes.1) (risen_by why place.one.devices before now turn_since.later cause) cause
+      by (Stuck why) is goes leaves cause = left (Stuck why) is (steps_as (Stuck why) h.turn.steps new.lab goes.0, turn_works (Stuck why) is goes.1, longer (Stuck why) is) (risen_by why place.one.devices before now turn_since.later cause) cause
       by Unwritten is goes leaves cause =
           left Unwritten is (Rattle.swap_turns.proofs.Closing.closes_as the_texts before.told h.turn.steps _ _ (λ lab all. steps_as Unwritten h.turn.steps lab all) leaves) cause tt
       by Stopped is goes leaves cause = left Stopped is (Rattle.swap_turns.proofs.Closing.closes_as the_texts before.told h.turn.steps _ _ (λ lab all. steps_as Stopped h.turn.steps lab all) leaves) tt tt

@@ -27,6 +27,7 @@ use Rattle.records_model.specs.Appends.{StandFor, standing}
 use Rattle.records_model.specs.Labs.{LabState, Texts, lab_in}
 use Rattle.records_model.specs.Works.{IsSound}
 use Rattle.swap_txn.specs.declared.live.Live.{Live}
+use Rattle.swap_turns.specs.Lengths.{IsLonger}
 use Rattle.swap_turns.specs.Running.{IsOpen, OpenSwap, RunsIn, Stands, Working}
 use Rattle.lab_state.specs.Texts.{the_texts}
 use Rattle.lab_audit.specs.Diff.{IsDiff, IsKnown, TellsSwitches}
@@ -40,6 +41,7 @@ use Rattle.script_text.specs.declared.command.Command.TheVariants as commands
 use Rattle.script_text.specs.declared.reply.AuditLine.{AuditLine}
 use Rattle.script_text.specs.declared.reply.Reply.{Reply}
 use Rattle.script_text.specs.declared.reply.Reply.TheVariants as replies
+use Rattle.swap_turns.proofs.Lengths.{longer_none}
 use Rattle.swap_turns.proofs.Pushing.{rose_later}
 use Rattle.swap_turns.proofs.Telling.{if_both, sound_front}
 use Rattle.lab_core.specs.Auditing.{Audits, IsReport, broken_by, no_lab as lab_missing, told as all_told, unread as one_unread}
@@ -150,6 +152,11 @@ reads_sound None unread = tt
 reads_sound (Some w) None = λ sound. subst (λ l. IsSound the_texts l) (sym (append-nil w.trace)) sound
 reads_sound (Some w) (Some device) = λ sound. unread_sound the_texts w.trace device sound
 
+-- no record is appended
+reads_longer : (j : Journal) (unread : Option (List ℕ)) → IsLonger j j (steps_of unread)
+reads_longer j None = longer_none j
+reads_longer j (Some device) = omega arith
+
 -- AN AUDIT IS OBEYED: by its reply, which doesn't close, and blames a device only where the devices' count rose; and where memory was wanting
 module _ (rule : RuleNumber) (devices : ℕ) (before now : Seen) (unread : Option (List ℕ)) (c : Control) (opens : List sessions.OpenSwap) (works : WorksWith before c opens) where
   abbrev Done : Doing
@@ -173,6 +180,7 @@ module _ (rule : RuleNumber) (devices : ℕ) (before now : Seen) (unread : Optio
     );
     works = λ _. reads_work before now unread c opens r works;
     limit = refl;
+    longer = λ _. reads_longer c.journal unread;
     opened = as_open None (Some reply) opens opens devices (λ o has. calm_ends reply (name_in o) no_end) (same_open opens);
     down = λ closing. never_both (closes reply) closing open_still;
     device = blamed;
@@ -188,6 +196,7 @@ module _ (rule : RuleNumber) (devices : ℕ) (before now : Seen) (unread : Optio
     obeys = ([], r.told, record { ends = (refl, refl, refl); sound = in_trace before.told (λ t. IsSound the_texts t → IsSound the_texts (t ++ [])) (reads_sound before.told None) });
     works = λ _. reads_work before now None c opens r works;
     limit = refl;
+    longer = λ _. longer_none c.journal;
     opened = as_open None None opens opens devices (λ o has. refl) (same_open opens);
     down = tt;
     device = tt;

@@ -1,7 +1,7 @@
 -- A LIST OF COMMANDS from where it began, of what is seen of a plant.
 use Rattle.std.specs.Prelude.{ℕ, List}
 use Rattle.plant.specs.Seen.{Seen}
-use Rattle.journal_disk.specs.Standing.{limit_of}
+use Rattle.journal_disk.specs.Standing.{length_of, limit_of}
 use Rattle.lab_core.specs.Controller.{Control}
 use Rattle.lab_core.specs.Sessions.{OpenSwap}
 use Rattle.lab_core.specs.Lists.{Listing, Lists, Ground, Past}
@@ -16,7 +16,7 @@ pub record Origin (X : Type 0) : Type 0 where
   pub devices : ℕ
 
 abbrev pub ground_of : {X : Type 0} → Origin X → Ground
-ground_of o = record { limit = limit_of o.old.journal; devices = o.devices }
+ground_of o = record { length = length_of o.old.journal; limit = limit_of o.old.journal; devices = o.devices }
 
 -- all of them were done, or as far as it came where memory was wanting
 abbrev pub AllDone : {X : Type 0} → Listing X → Origin X → Doing

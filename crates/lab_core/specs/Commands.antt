@@ -28,7 +28,7 @@ is_about (commands.Batch moment lines text) name = has_run (batch_of_text text) 
 is_about command name = is_named (name_of command) name
 
 abbrev pub ground_by : Setting → Ground
-ground_by set = record { limit = set.limit; devices = set.devices }
+ground_by set = record { length = set.length; limit = set.limit; devices = set.devices }
 
 -- `play`: the changes that the due events of its text ask for, in turn
 abbrev pub Plays : List ℕ → ℕ → ℕ → List ℕ → Option (List Event) → Setting → List OpenSwap → LabState → List Event → After → Type 0

@@ -1,7 +1,8 @@
 -- A LIST OF COMMANDS inside one command.
-use Rattle.std.specs.Prelude.{◌≡◌, ℕ, Bool, true, false, List, [], ◌++◌, Option, Some, None, Result, Ok, Err}
+use Rattle.std.specs.Prelude.{◌≡◌, ◌+◌, ℕ, Bool, true, false, List, [], ◌++◌, Option, Some, None, Result, Ok, Err}
 use Rattle.plant.specs.Events.{Event}
 use Rattle.records_model.specs.Labs.{LabState}
+use Rattle.swap_turns.specs.Lengths.{appended}
 use Rattle.script_text.specs.declared.reply.Reply.{Reply}
 use Rattle.script_text.specs.declared.reply.Reply.TheVariants as replies
 use Rattle.lab_tasks.specs.Tasks.{Task}
@@ -17,8 +18,9 @@ pub record Listing (X : Type 0) : Type 1 where
   pub behind : X → Reply → X
   pub whole : X → Reply
 
--- what does not change over it: the limit of the journal, and the count of device faults at which a swap of it is opened
+-- what does not change over it: the journal's length where it begins, its limit, and the count of device faults at which a swap of it is opened
 pub record Ground : Type 0 where
+  pub length : ℕ
   pub limit : ℕ
   pub devices : ℕ
 
@@ -32,11 +34,13 @@ last_reply l at (Some replies.Stopped) = Some replies.Stopped
 last_reply l at (Some reply) = Some (l.whole (l.behind at reply))
 
 module _ {X : Type 0} (l : Listing X) (base : Ground) (trace : Option (List Event)) where
-  -- THE NEXT COMMAND, behind these steps: judged in that lab, by the journal's length there
+  -- THE NEXT COMMAND, behind these steps: judged in that lab, by the journal's length there, which is longer by the records that they append; and where the
+  -- trace is told, it is as the sides read
   pub record DoesNext (front : List Event) (at : X) (s : LabState) (opens : List OpenSwap) (steps : List Event) (after : After) : Type 0 where
     pub more : l.is_over at ≡ false
     pub length : ℕ
     pub length_is : IsLengthBehind trace front base.limit length
+    pub longer : length ≡ base.length + appended front
     pub done : IsDoneBy (l.Judges at (set_at base length) s opens) (set_at base length) s opens steps after
 
   -- SOME OF THEM ARE DONE, each answered and with the controller open behind it: the steps, the place, the lab and the open swaps behind them

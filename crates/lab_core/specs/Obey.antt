@@ -10,6 +10,7 @@ use Rattle.lab_state.specs.Texts.{the_texts}
 use Rattle.cost_rule.specs.declared.rule.RuleNumber.{RuleNumber}
 use Rattle.journal_disk.specs.Standing.{length_of, limit_of}
 use Rattle.plant.specs.Seen.{Seen}
+use Rattle.swap_turns.specs.Lengths.{IsLonger}
 use Rattle.script_text.specs.Replies.{blames_device, closes}
 use Rattle.script_text.specs.declared.command.Command.{Command}
 use Rattle.script_text.specs.declared.command.Command.TheVariants as commands
@@ -100,13 +101,14 @@ reply_of (Ok reply) = Some reply
 reply_of (Err fault) = None
 
 -- ALL THAT A CALL LEAVES, of what is seen of a plant before it and after it, where the controller works with these open swaps, and a swap of the command
--- is opened at that count. A failure of a device is told only where their count rose since the experiment's swap was opened, or since that count; and one
--- of what the command itself sent only where it rose in this call.
+-- is opened at that count. Where it works on, the journal is longer by the records that its steps append. A failure of a device is told only where their
+-- count rose since the experiment's swap was opened, or since that count; and one of what the command itself sent only where it rose in this call.
 pub record Obeys (Done : Doing) (Wants : Wanting) (devices : ℕ) (before now : Seen) (old new : Control) (opens : List OpenSwap) (exp : Option (List ℕ)) (result : Result Reply CoreFault) : Type 0 where
   pub to : List OpenSwap
   pub obeys : ToldBy Done Wants before now new.lab to result
   pub works : stays_at_work result ≡ true → WorksWith now new to
   pub limit : limit_of new.journal ≡ limit_of old.journal
+  pub longer : stays_at_work result ≡ true → IsLonger old.journal new.journal obeys.0
   pub opened : AreOpenedBy exp (reply_of result) opens to devices
   pub down : IfOk result (λ reply. closes reply ≡ true → Rose before.faults.disk now.faults.disk)
   pub device : IfOk result (λ reply. blames_device reply ≡ true → Rose (counted_from opens exp devices) now.faults.devices)

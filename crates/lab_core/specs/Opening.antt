@@ -179,8 +179,8 @@ OpenTold before now limit result = (reading : List Event) × (behind : List Even
 
 -- AFTER THE SETTLING of a controller that has read: all are settled; or it broke off, or memory was wanting in it
 abbrev pub AfterOpening : Control → Seen → Seen → Result Control OpenFault → Type 0
-AfterOpening c before now (Ok new) = (settled : Settled) × SettledAll the_texts c.lab [] before now new.journal new.lab settled
-AfterOpening c before now (Err faults.Memory) = (journal : Journal) × (lab : LabState) × SettledSome the_texts c.lab [] before now journal lab
+AfterOpening c before now (Ok new) = (settled : Settled) × SettledAll the_texts c.lab [] before now c.journal new.journal new.lab settled
+AfterOpening c before now (Err faults.Memory) = (journal : Journal) × (lab : LabState) × SettledSome the_texts c.lab [] before now c.journal journal lab
 AfterOpening c before now (Err faults.Plant) = HasBrokenOff the_texts c.lab (swaps_of [] c.lab.experiments) before now Unwritten
 AfterOpening c before now (Err faults.Stopped) = HasBrokenOff the_texts c.lab (swaps_of [] c.lab.experiments) before now Halted
 AfterOpening c before now (Err (faults.Bad side at)) = ⊥

@@ -15,8 +15,8 @@ use Rattle.swap_turns.specs.Beginning.{BeginsOf, HasBegun, IsPlanOf, MayBegin}
 use Rattle.swap_turns.specs.Finishing.{Finishes}
 use Rattle.swap_turns.specs.Running.{OpenSwap as RunningSwap, Working}
 use Rattle.swap_turns.specs.Swaps.{Swap as SwapOf, Moves}
-use Rattle.swap_turns.specs.Turning.{TurnSteps}
-use Rattle.swap_mgr.specs.Managing.{HasTurned, HasTurnedToEnd, IfGoesOn}
+use Rattle.swap_turns.specs.Turning.{IfGoesOn, TurnSteps}
+use Rattle.swap_mgr.specs.Managing.{HasTurned, HasTurnedToEnd}
 use Rattle.swap_mgr.specs.declared.progress.NotOpened.{NotOpened}
 use Rattle.swap_mgr.specs.declared.progress.NotOpened.TheVariants as unopened
 use Rattle.swap_mgr.specs.declared.progress.Progress.{Progress}
@@ -50,12 +50,12 @@ HasTried (unopened.TooManyOpen most) = ⊥
 HasTried fault = Unit {0}
 
 -- A TURN WAS MADE, or an open swap turned to its end: and where the controller goes on, its lab is that of the steps
-pub record HasTurnedIn (s : LabState) (pairs : List (RunningSwap × Live)) (exp : List ℕ) (was now : Seen) (k : Journal) (told : Progress) (new : List Live) (after : LabState) : Type 0 where
-  pub turn : HasTurned the_texts s pairs exp was now k told new
+pub record HasTurnedIn (s : LabState) (pairs : List (RunningSwap × Live)) (exp : List ℕ) (was now : Seen) (j k : Journal) (told : Progress) (new : List Live) (after : LabState) : Type 0 where
+  pub turn : HasTurned the_texts s pairs exp was now j k told new
   pub goes : IfGoesOn turn.outcome (TurnSteps s turn.swap turn.steps turn.outcome after × Working the_texts now.told k after (turn.before ++ (turn.next ++ turn.behind)))
 
-pub record HasEndedIn (s : LabState) (pairs : List (RunningSwap × Live)) (exp : List ℕ) (was now : Seen) (k : Journal) (told : Progress) (new : List Live) (after : LabState) : Type 0 where
-  pub end : HasTurnedToEnd the_texts s pairs exp was now k told new
+pub record HasEndedIn (s : LabState) (pairs : List (RunningSwap × Live)) (exp : List ℕ) (was now : Seen) (j k : Journal) (told : Progress) (new : List Live) (after : LabState) : Type 0 where
+  pub end : HasTurnedToEnd the_texts s pairs exp was now j k told new
   pub goes : IfGoesOn end.finished.outcome (Finishes s end.swap end.finished.steps end.finished.outcome after × Working the_texts now.told k after (end.before ++ end.behind))
 
 -- A SWAP WAS BEGUN, which is open then since that count

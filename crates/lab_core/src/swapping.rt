@@ -164,7 +164,7 @@ impl Controller {
         requires is_open { HasOpen self.old.swaps exp }
         ensures turned { (pairs : List (RunningSwap × Live)) → Working the_texts (P.seen plant.old).told self.old.journal self.old.lab pairs
             → Holds self.old.swaps pairs
-            → HasTurnedIn self.old.lab pairs exp (P.seen plant.old) (P.seen plant.new) self.new.journal result self.new.swaps self.new.lab }
+            → HasTurnedIn self.old.lab pairs exp (P.seen plant.old) (P.seen plant.new) self.old.journal self.new.journal result self.new.swaps self.new.lab }
         ensures stopped { IsStop result ↔ IsTrue (P.seen plant.new).stopped }
         ensures limit { limit_of self.new.journal ≡ limit_of self.old.journal }
     {
@@ -182,7 +182,7 @@ impl Controller {
         requires is_open { HasOpen self.old.swaps exp }
         ensures ended { (pairs : List (RunningSwap × Live)) → Working the_texts (P.seen plant.old).told self.old.journal self.old.lab pairs
             → Holds self.old.swaps pairs
-            → HasEndedIn self.old.lab pairs exp (P.seen plant.old) (P.seen plant.new) self.new.journal result self.new.swaps self.new.lab }
+            → HasEndedIn self.old.lab pairs exp (P.seen plant.old) (P.seen plant.new) self.old.journal self.new.journal result self.new.swaps self.new.lab }
         ensures stopped { IsStop result ↔ IsTrue (P.seen plant.new).stopped }
         ensures limit { limit_of self.new.journal ≡ limit_of self.old.journal }
     {
