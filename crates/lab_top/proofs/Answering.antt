@@ -20,7 +20,7 @@ use Rattle.lab_core.specs.Tells.{opens_of}
 use Rattle.lab_top.specs.declared.command.CommandFault.{CommandFault}
 use Rattle.lab_top.specs.declared.command.CommandFault.TheVariants as faults
 use Rattle.lab_top.specs.Answering.{Moment, Made, Ends, Sent, Answered, marked, piece_of}
-use Rattle.lab_top.specs.Pieces.{Finds, IsPlannedAs, IsPlannedBy, broken_off, opened, text as but_text, GoesFrom}
+use Rattle.lab_top.specs.Pieces.{Finds, IsPlannedAs, IsPlannedBy, broken_off, opened, text as but_text, GoesFrom, Held}
 use Rattle.lab_top.proofs.Obeyed.{opened_none}
 use Rattle.lab_top.proofs.Stepping.{silent_done}
 use Rattle.lab_core.specs.Moments.{trace_in, with_more}
@@ -47,12 +47,12 @@ silent_finds None trace command mark Closed to opening own reply (quiet, opened 
 silent_finds None trace command mark Closed to opening own reply (quiet, broken_off breaks nothing closed part) = (quiet, broken_off (unanswered refl) nothing refl part)
 silent_finds None trace command mark (Open opens) to opening own reply finds = finds
 
-silent_goes : (drill : Option Drill) (terms : Terms) (trace : Option (List Event)) (command : Command) (mark : Faults) (from to : Session) (opening own : List Event) (told : Reply) (mid after : LabState)
-    → GoesFrom drill terms trace (piece_of command mark from to opening own (Some told)) mid after → GoesFrom drill terms trace (piece_of command mark from Closed opening own None) mid after
-silent_goes (Some drill) terms trace command mark from to opening own told mid after goes = (goes.0, λ some. absurd (cc some))
-silent_goes None terms trace command mark from to opening own told mid after (inr broke) = inr (record { closed = broke.closed; nothing = broke.nothing; shut = refl; tells = tt })
-silent_goes None terms trace command mark from to opening own told mid after (inl x) =
-    inl (record { sane = x.sane; length = x.length; length_is = x.length_is; told = x.told; session = x.session; behind = x.behind; is_told = inl x.is_told.2; step = x.step })
+silent_goes : (drill : Option Drill) (terms : Terms) (trace : Option (List Event)) (command : Command) (mark : Faults) (from to : Session) (opening own : List Event) (told : Reply) (at : Held) (after : LabState)
+    → GoesFrom drill terms trace (piece_of command mark from to opening own (Some told)) at after → GoesFrom drill terms trace (piece_of command mark from Closed opening own None) at after
+silent_goes (Some drill) terms trace command mark from to opening own told at after goes = (goes.0, λ some. absurd (cc some))
+silent_goes None terms trace command mark from to opening own told at after (inr broke) = inr (record { closed = broke.closed; nothing = broke.nothing; shut = refl; tells = tt })
+silent_goes None terms trace command mark from to opening own told at after (inl x) =
+    inl (record { sane = x.sane; length_is = x.length_is; told = x.told; session = x.session; behind = x.behind; is_told = inl x.is_told.2; step = x.step })
 
 silent_made : (terms : Terms) (command : Command) (old new : Moment) (from to : Session) (told : Reply) → Made terms command old new from to (Some told) → Made terms command old new from Closed None
 silent_made terms command old new from to told made =
@@ -77,10 +77,10 @@ silent_made terms command old new from to told made =
         }) b.is_piece;
       };
       labs = record {
-        mid = made.labs.mid;
+        at = made.labs.at;
         after = made.labs.after;
         first = made.labs.first;
-        goes = silent_goes (drill_of command) terms (with_more (trace_in old.plant.told) b.opening) command mark from to b.opening b.own told made.labs.mid made.labs.after made.labs.goes;
+        goes = silent_goes (drill_of command) terms (with_more (trace_in old.plant.told) b.opening) command mark from to b.opening b.own told made.labs.at made.labs.after made.labs.goes;
         last = made.labs.last;
       };
       later = made.later;

@@ -1,5 +1,5 @@
 -- A drill is planned, and all else stays as it was.
-use Rattle.std.proofs.Common.{◌≡◌, inl, inr, ℕ, ◌^◌, arith, Bool, true, false, List, [], ◌++◌, Option, Some, None, Result, Ok, Err, refl, sym, ap, subst, ◌∙◌}
+use Rattle.std.proofs.Common.{◌≡◌, ◌+◌, inl, inr, ℕ, ◌^◌, arith, Bool, true, false, List, [], ◌++◌, Option, Some, None, Result, Ok, Err, refl, sym, ap, subst, ◌∙◌}
 use Rattle.std.specs.Prelude.{IfSome, OnErr, is_some, if◌then◌else◌}
 use Rattle.std.proofs.lemmas.List.{append-nil}
 use Rattle.lab_base.proofs.Tests.{some_weaker}
@@ -28,8 +28,9 @@ use Rattle.lab_tasks.specs.OpenNames.{name_of}
 use Rattle.lab_core.specs.Tells.{opens_of}
 use Rattle.lab_top.specs.declared.command.CommandFault.{CommandFault}
 use Rattle.lab_top.specs.declared.command.CommandFault.TheVariants as faults
-use Rattle.lab_top.specs.Answering.{Begins, Ends, HasSession, Moment, Plans, StandsAt, piece_of, reply_if, HandsLab}
-use Rattle.lab_top.specs.Pieces.{Finds, FirstLab, IsDone, IsPlannedBy, StepsFrom, WantsOnly, reading as in_reading, blames_if, closes_if, leaves_one, stays_open, with_drill_if, GoesFrom, Piece}
+use Rattle.lab_top.specs.Answering.{Begins, Ends, HasSession, Moment, Plans, StandsAt, piece_of, held_first, held_of, reply_if, HandsLab}
+use Rattle.swap_turns.specs.Lengths.{appended}
+use Rattle.lab_top.specs.Pieces.{Finds, FirstLab, IsDone, IsPlannedBy, StepsFrom, WantsOnly, reading as in_reading, blames_if, closes_if, leaves_one, stays_open, with_drill_if, GoesFrom, Held, Piece, held_behind}
 use Rattle.lab_top.proofs.HandedOn.{ends_of}
 use Rattle.lab_top.proofs.Obeyed.{blames_none, later_same, map_both}
 use Rattle.lab_top.proofs.Stepping.{AsRead, ImagesAt, after_of, all_some, done_at, lab_length, not_early, standing_all, standing_lab, told_so}
@@ -180,21 +181,31 @@ module _ (terms : Terms) (command : Command) (mark : Faults) (drill : Drill) (is
     }) possible;
   }
 
-  -- the session behind it is that before it, where it has a reply
+  -- the session behind it is that before it, where it has a reply; and nothing is done
+  begun_idle : (result : Result Reply CommandFault) → Plans terms.takes drill old.told new result → (b : Begins terms command mark old.told new from (kept_by (reply_if result) from) (reply_if result)) × (b.own ≡ [])
+  unfolding begun_with begun_silent
+  begun_idle (Ok reply) (inl planned) =
+      subst (λ r. (b : Begins terms command mark old.told new from from (Some r)) × (b.own ≡ [])) (sym planned.0) (
+        begun_with replies.Planned true refl refl (λ s lab. is_planned planned.1 refl refl) (refl, planned.1)
+            (planned.2 ∙ ap (λ (o : Option Told). with_drill o drill) (with_steps-nil old.told) ∙ ap (λ (d : Option Drill). with_drill_if (with_steps old.told []) d) (sym is)),
+        refl,
+      )
+  begun_idle (Ok reply) (inr refused) =
+      subst (λ r. (b : Begins terms command mark old.told new from from (Some r)) × (b.own ≡ [])) (sym refused.0)
+      (begun_with replies.NoDrill false refl refl (λ s lab. is_refused refused.1 refl refl) (refl, refused.1) (refused.2 ∙ with_steps-nil old.told), refl)
+  begun_idle (Err fault) wants = (begun_silent wants.1, refl)
+
   pub begun_drill : (result : Result Reply CommandFault) → Plans terms.takes drill old.told new result → Begins terms command mark old.told new from (kept_by (reply_if result) from) (reply_if result)
-  begun_drill (Ok reply) (inl planned) =
-      subst (λ r. Begins terms command mark old.told new from from (Some r)) (sym planned.0)
-      (begun_with replies.Planned true refl refl (λ s lab. is_planned planned.1 refl refl) (refl, planned.1)
-      (planned.2 ∙ ap (λ (o : Option Told). with_drill o drill) (with_steps-nil old.told) ∙ ap (λ (d : Option Drill). with_drill_if (with_steps old.told []) d) (sym is)))
-  begun_drill (Ok reply) (inr refused) =
-      subst (λ r. Begins terms command mark old.told new from from (Some r)) (sym refused.0)
-      (begun_with replies.NoDrill false refl refl (λ s lab. is_refused refused.1 refl refl) (refl, refused.1) (refused.2 ∙ with_steps-nil old.told))
-  begun_drill (Err fault) wants = begun_silent wants.1
+  begun_drill result plans = (begun_idle result plans).0
+
+  nothing_done : (result : Result Reply CommandFault) (plans : Plans terms.takes drill old.told new result) → (begun_drill result plans).own ≡ []
+  unfolding begun_drill
+  nothing_done result plans = (begun_idle result plans).1
 
   -- memory was wanting, and nothing was done
   pub drill_wants : (result : Result Reply CommandFault) (plans : Plans terms.takes drill old.told new result) → is_some (reply_if result) ≡ false
       → IfSome old.told (λ t. WantsOnly terms t.trace (piece_of command mark from (kept_by (reply_if result) from) (begun_drill result plans).opening (begun_drill result plans).own (reply_if result)))
-  unfolding begun_drill begun_silent
+  unfolding begun_drill begun_idle begun_silent
   drill_wants (Ok reply) plans none = absurd (cc none)
   drill_wants (Err fault) plans none = some_weaker old.told _ _ (λ t there. in_reading refl refl) possible
 
@@ -233,23 +244,29 @@ opened_kept : (exp : Option (List ℕ)) (reply : Option Reply) (from : Session) 
 opened_kept exp None from count stays o there = absurd there
 opened_kept exp (Some reply) from count stays o there = inr (stays (name_in o), (o, there, refl, refl))
 
--- the lab is left
-lab_of : Option Control → LabState
-lab_of None = at_first
-lab_of (Some c) = c.lab
+-- the lab is left, and the journal
+held_at : Option Control → Held
+held_at None = held_first
+held_at (Some c) = held_of c
 
-lab_kept : (k : Option Control) → IfSome k (λ c. lab_of k ≡ c.lab)
-unfolding lab_of
-lab_kept None = tt
-lab_kept (Some c) = refl
+held_kept : (k : Option Control) → IfSome k (λ c. held_at k ≡ held_of c)
+unfolding held_at
+held_kept None = tt
+held_kept (Some c) = refl
 
-hands_drill : (terms : Terms) (command : Command) (drill : Drill) → drill_of command ≡ Some drill → (told : Option Told) (piece : Piece) → piece.command ≡ command → (is_some piece.reply ≡ true → piece.to ≡ piece.from) → (old new : Option Control) → new ≡ old → HandsLab terms told piece old new
-hands_drill terms command drill is told piece of keeps old new same = record {
-  mid = lab_of old;
-  after = lab_of old;
-  first = lab_kept old;
-  goes = subst (λ (d : Option Drill). GoesFrom d terms (with_more (trace_in told) piece.opening) piece (lab_of old) (lab_of old)) (sym (ap drill_of of ∙ is)) (refl, keeps);
-  last = subst (λ (k : Option Control). IfSome k (λ c. c.lab ≡ lab_of old)) (sym same) (some_weaker old _ _ (λ c h. sym h) (lab_kept old));
+-- no record is appended
+nothing_behind : (piece : Piece) (held : Held) → piece.own ≡ [] → held ≡ held_behind piece held held.lab
+nothing_behind piece held none =
+    let long : held.length ≡ held.length + appended piece.own = omega (arith, ap (λ l. appended l) none) in
+    ap (λ (n : ℕ). let h : Held = record { lab = held.lab; length = n } in h) long
+
+hands_drill : (terms : Terms) (command : Command) (drill : Drill) → drill_of command ≡ Some drill → (told : Option Told) (piece : Piece) → piece.command ≡ command → piece.own ≡ [] → (is_some piece.reply ≡ true → piece.to ≡ piece.from) → (old new : Option Control) → new ≡ old → HandsLab terms told piece old new
+hands_drill terms command drill is told piece of none keeps old new same = record {
+  at = held_at old;
+  after = (held_at old).lab;
+  first = held_kept old;
+  goes = subst (λ (d : Option Drill). GoesFrom d terms (with_more (trace_in told) piece.opening) piece (held_at old) (held_at old).lab) (sym (ap drill_of of ∙ is)) (refl, keeps);
+  last = subst (λ (k : Option Control). IfSome k (λ c. held_of c ≡ held_behind piece (held_at old) (held_at old).lab)) (sym same) (some_weaker old _ _ (λ c h. sym h ∙ nothing_behind piece (held_at old) none) (held_kept old));
 }
 
 pub ends_drill : (terms : Terms) (command : Command) (drill : Drill) → drill_of command ≡ Some drill → (old new : Moment) (result : Result Reply CommandFault) → Plans terms.takes drill old.plant.told new.plant.told result → new.plant.faults ≡ old.plant.faults → new.plant.stopped ≡ old.plant.stopped
@@ -258,7 +275,8 @@ ends_drill terms command drill is old new result plans count still kept from goe
     let mild_so = mild terms drill old.plant.told new.plant.told result plans in
     ends_of terms command old new from (kept_by (reply_if result) from) result
     (begun_drill terms command old.plant.faults drill is old.plant new.plant.told old.controller from goes_on.stands possible result plans)
-    (hands_drill terms command drill is old.plant.told (piece_of command old.plant.faults from (kept_by (reply_if result) from) _ _ (reply_if result)) refl (λ some. sym (kept_so (reply_if result) from some)) old.controller new.controller kept)
+    (hands_drill terms command drill is old.plant.told (piece_of command old.plant.faults from (kept_by (reply_if result) from) _ _ (reply_if result)) refl
+    (nothing_done terms command old.plant.faults drill is old.plant new.plant.told old.controller from goes_on.stands possible result plans) (λ some. sym (kept_so (reply_if result) from some)) old.controller new.controller kept)
     (kept_shut (reply_if result) from (drill_stays terms drill old.plant.told new.plant.told result plans))
     (later_same old.plant.faults old.plant.faults new.plant.faults (omega arith) (omega arith) count)
     (λ shut. absurd (cc (mild_so.0, shut)))

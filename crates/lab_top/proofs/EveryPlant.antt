@@ -19,8 +19,8 @@ use Rattle.lab_core.specs.Tells.{AllMove, Hinders, IsFeasibleFor, TellsBroken, b
 use Rattle.lab_core.proofs.ListSteps.{about_not, all_leave, all_move, all_no_drill}
 use Rattle.lab_core.proofs.OpenLaws.{Leaves, names_differ, others_as_they_were, they_are_few}
 use Rattle.lab_core.proofs.SolutionLaws.{in_open}
-use Rattle.lab_top.specs.Pieces.{Piece, Begun, AreHandedOn, AreOthers, ButForReply, Counts, GoesFrom, HandLabsOn, NotOpened, OwnStep, StayOpen, is_closed, lab_behind, lab_from, session_after, stays_open, steps_of, traces_after}
-use Rattle.lab_top.specs.Ran.{Outside, Ran, behind_in, from_in}
+use Rattle.lab_top.specs.Pieces.{Piece, Begun, AreHandedOn, AreOthers, ButForReply, Counts, GoesFrom, Held, HandLabsOn, NotOpened, OwnStep, StayOpen, is_closed, held_behind, held_from, lab_behind, session_after, stays_open, steps_of, traces_after}
+use Rattle.lab_top.specs.Ran.{Outside, Ran, behind_in, from_in, held_in}
 use Rattle.lab_top.specs.declared.status.Status.{Status}
 use Rattle.lab_words.specs.Words.{Choices}
 use Rattle.lab_top.proofs.RunLaws.{caused_at}
@@ -28,18 +28,18 @@ use Rattle.lab_top.proofs.TurnLaws.{handed_behind, sessions_join}
 use Rattle.lab_core.proofs.OuterReplies.{of_drill_if}
 
 -- ONE PIECE
-module _ (terms : Terms) (trace : Option (List Event)) (piece : Piece) (mid last : LabState) (shut : stays_open piece.reply ≡ false → piece.to ≡ Closed) where
-  abbrev after_of : OwnStep terms trace piece mid last → After
+module _ (terms : Terms) (trace : Option (List Event)) (piece : Piece) (at : Held) (last : LabState) (shut : stays_open piece.reply ≡ false → piece.to ≡ Closed) where
+  abbrev after_of : OwnStep terms trace piece at last → After
   after_of x = record { reply = x.told; lab = last; session = x.session }
 
-  abbrev set_of : OwnStep terms trace piece mid last → Setting
-  set_of x = record { length = x.length; limit = 2 ^ 32; devices = piece.faults.devices }
+  abbrev set_of : OwnStep terms trace piece at last → Setting
+  set_of x = record { length = at.length; limit = 2 ^ 32; devices = piece.faults.devices }
 
   -- one that is answered has that reply and that session
-  pub told_to : (x : OwnStep terms trace piece mid last) (reply : Reply) → piece.reply ≡ Some reply → (x.told ≡ Some reply) × (x.session ≡ piece.to)
+  pub told_to : (x : OwnStep terms trace piece at last) (reply : Reply) → piece.reply ≡ Some reply → (x.told ≡ Some reply) × (x.session ≡ piece.to)
   told_to x reply is = let so = subst (λ (o : Option Reply). ButForReply o piece.to x.told x.session x.behind) is x.is_told in (so.0, so.1)
 
-  module _ (goes : GoesFrom (drill_of piece.command) terms trace piece mid last) (open_now : is_closed piece.to ≡ false) where
+  module _ (goes : GoesFrom (drill_of piece.command) terms trace piece at last) (open_now : is_closed piece.to ≡ false) where
     replied : (reply : Option Reply) → piece.reply ≡ reply → (r : Reply) × (piece.reply ≡ Some r)
     replied (Some r) is = (r, is)
     replied None is = absurd (cc (ap is_closed (shut (ap stays_open is)), open_now))
@@ -50,16 +50,16 @@ module _ (terms : Terms) (trace : Option (List Event)) (piece : Piece) (mid last
     abbrev Left : Type 0
     Left = (opens_of piece.to ≡ opens_of piece.from) ⊎ ((to : List OpenSwap) × (piece.to ≡ Open to) × (set : Setting) × (judgement : Result Task Reply) × Leaves set (Open (opens_of piece.from)) piece.command judgement to)
 
-    step_left : (x : OwnStep terms trace piece mid last) (to : Session) → piece.to ≡ to → is_closed to ≡ false → Left
+    step_left : (x : OwnStep terms trace piece at last) (to : Session) → piece.to ≡ to → is_closed to ≡ false → Left
     step_left x Closed is open_to = absurd (cc open_to)
     step_left x (Open to) is open_to =
         ⊎_elim (λ same. inl (ap opens_of is ∙ same)) (λ one. inr (to, is, set_of x, one.0, one.1))
-        (all_leave terms trace (set_of x) mid (Open (opens_of piece.from)) [] (piece.own ++ x.behind) (after_of x) piece.command to ((told_to x there.0 there.1).1 ∙ is) x.step)
+        (all_leave terms trace (set_of x) at.lab (Open (opens_of piece.from)) [] (piece.own ++ x.behind) (after_of x) piece.command to ((told_to x there.0 there.1).1 ∙ is) x.step)
 
     left : Left
     left = by (drill_of piece.command) goes
       where
-        by : (drill : Option Drill) → GoesFrom drill terms trace piece mid last → Left
+        by : (drill : Option Drill) → GoesFrom drill terms trace piece at last → Left
         by (Some drill) kept = inl (ap opens_of (kept.1 (ap is_some there.1)))
         by None (inl x) = step_left x piece.to refl open_now
         by None (inr broke) = absurd (cc (ap is_closed broke.shut, open_now))
@@ -77,16 +77,16 @@ module _ (terms : Terms) (trace : Option (List Event)) (piece : Piece) (mid last
         ⊎_elim (λ same. subst (λ l. AllDiffer (names_of l)) (sym same) differ) (λ x. subst (λ s. AllDiffer (busy_of s)) (sym x.1) (names_differ x.2 (Open (opens_of piece.from)) piece.command x.3 x.0 differ x.4)) left
 
     -- the experiment of each open swap moves in the lab
-    step_moves_ever : (x : OwnStep terms trace piece mid last) (to : Session) → piece.to ≡ to → is_closed to ≡ false → AllDiffer (busy_of piece.from) → AllMove (opens_of piece.from) mid → AllMove (opens_of piece.to) last
+    step_moves_ever : (x : OwnStep terms trace piece at last) (to : Session) → piece.to ≡ to → is_closed to ≡ false → AllDiffer (busy_of piece.from) → AllMove (opens_of piece.from) at.lab → AllMove (opens_of piece.to) last
     step_moves_ever x Closed is open_to differ all = absurd (cc open_to)
     step_moves_ever x (Open to) is open_to differ all =
         subst (λ s. AllMove (opens_of s) last) (sym is)
-        (all_move terms trace (set_of x) mid (Open (opens_of piece.from)) [] (piece.own ++ x.behind) (after_of x) piece.command to ((told_to x there.0 there.1).1 ∙ is) x.sane.none differ all x.step)
+        (all_move terms trace (set_of x) at.lab (Open (opens_of piece.from)) [] (piece.own ++ x.behind) (after_of x) piece.command to ((told_to x there.0 there.1).1 ∙ is) x.sane.none differ all x.step)
 
-    pub they_move_ever : AllDiffer (busy_of piece.from) → AllMove (opens_of piece.from) mid → AllMove (opens_of piece.to) last
+    pub they_move_ever : AllDiffer (busy_of piece.from) → AllMove (opens_of piece.from) at.lab → AllMove (opens_of piece.to) last
     they_move_ever differ all = by (drill_of piece.command) goes
       where
-        by : (drill : Option Drill) → GoesFrom drill terms trace piece mid last → AllMove (opens_of piece.to) last
+        by : (drill : Option Drill) → GoesFrom drill terms trace piece at last → AllMove (opens_of piece.to) last
         by (Some drill) kept = subst (λ s. AllMove (opens_of s) last) (sym (kept.1 (ap is_some there.1))) (subst (λ u. AllMove (opens_of piece.from) u) (sym kept.0) all)
         by None (inl x) = step_moves_ever x piece.to refl open_now differ all
         by None (inr broke) = absurd (cc (ap is_closed broke.shut, open_now))
@@ -99,59 +99,59 @@ pub record HoldsOf (session : Session) (s : LabState) : Type 0 where
   pub all : AllMove (opens_of session) s
 
 -- a piece between two labs, with what holds where it begins
-pub record At (terms : Terms) (trace : Option (List Event)) (b : Begun) (mid last : LabState) : Type 0 where
-  pub goes : GoesFrom (drill_of b.piece.command) terms (with_more trace b.piece.opening) b.piece mid last
-  pub holds : HoldsOf b.piece.from mid
+pub record At (terms : Terms) (trace : Option (List Event)) (b : Begun) (at : Held) (last : LabState) : Type 0 where
+  pub goes : GoesFrom (drill_of b.piece.command) terms (with_more trace b.piece.opening) b.piece at last
+  pub holds : HoldsOf b.piece.from at.lab
 
 closed_holds : (session : Session) (s : LabState) → session ≡ Closed → HoldsOf session s
 closed_holds session s is = subst (λ x. HoldsOf x s) (sym is) (record { few = omega arith; differ = tt; all = λ o has. absurd has })
 
 -- from the session that is handed on
-from_holds : (session from : Session) (s mid : LabState) → from ≡ session → (is_closed from ≡ false → mid ≡ s) → HoldsOf session s → HoldsOf from mid
-from_holds session Closed s mid is same h = closed_holds Closed mid refl
-from_holds session (Open opens) s mid is same h = subst (λ u. HoldsOf (Open opens) u) (sym (same refl)) (subst (λ x. HoldsOf x s) (sym is) h)
+from_holds : (session from : Session) (s at : Held) → from ≡ session → (is_closed from ≡ false → at ≡ s) → HoldsOf session s.lab → HoldsOf from at.lab
+from_holds session Closed s at is same h = closed_holds Closed at.lab refl
+from_holds session (Open opens) s at is same h = subst (λ (u : Held). HoldsOf (Open opens) u.lab) (sym (same refl)) (subst (λ x. HoldsOf x s.lab) (sym is) h)
 
-next_holds : (terms : Terms) (trace : Option (List Event)) (piece : Piece) (mid last : LabState) → (stays_open piece.reply ≡ false → piece.to ≡ Closed) → GoesFrom (drill_of piece.command) terms trace piece mid last → HoldsOf piece.from mid → HoldsOf piece.to last
-next_holds terms trace piece mid last shut goes h = by piece.to refl
+next_holds : (terms : Terms) (trace : Option (List Event)) (piece : Piece) (at : Held) (last : LabState) → (stays_open piece.reply ≡ false → piece.to ≡ Closed) → GoesFrom (drill_of piece.command) terms trace piece at last → HoldsOf piece.from at.lab → HoldsOf piece.to last
+next_holds terms trace piece at last shut goes h = by piece.to refl
   where
     by : (to : Session) → piece.to ≡ to → HoldsOf piece.to last
     by Closed is = closed_holds piece.to last is
     by (Open opens) is =
         let open_now : is_closed piece.to ≡ false = ap is_closed is in
         record {
-          few = are_few_ever terms trace piece mid last shut goes open_now h.few;
-          differ = they_differ_ever terms trace piece mid last shut goes open_now h.differ;
-          all = they_move_ever terms trace piece mid last shut goes open_now h.differ h.all;
+          few = are_few_ever terms trace piece at last shut goes open_now h.few;
+          differ = they_differ_ever terms trace piece at last shut goes open_now h.differ;
+          all = they_move_ever terms trace piece at last shut goes open_now h.differ h.all;
         }
 
-walk : (terms : Terms) (entry exit : Faults) (trace : Option (List Event)) (s end : LabState) (session : Session) (before after : List Begun) (b : Begun) (labs : HandLabsOn terms trace s (before ++ b ∷ after) end)
-    → Counts terms entry (before ++ b ∷ after) exit → AreHandedOn session (before ++ b ∷ after) → HoldsOf session s
-    → At terms (traces_after trace before) b (lab_from terms trace s end before after b labs) (lab_behind terms trace s end before after b labs)
+walk : (terms : Terms) (entry exit : Faults) (trace : Option (List Event)) (s end : Held) (session : Session) (before after : List Begun) (b : Begun) (labs : HandLabsOn terms trace s (before ++ b ∷ after) end)
+    → Counts terms entry (before ++ b ∷ after) exit → AreHandedOn session (before ++ b ∷ after) → HoldsOf session s.lab
+    → At terms (traces_after trace before) b (held_from terms trace s end before after b labs) (lab_behind terms trace s end before after b labs)
 walk terms entry exit trace s end session [] after b labs counts handed h =
     record { goes = labs.3; holds = from_holds session b.piece.from s labs.0 handed.0 labs.2 h }
 walk terms entry exit trace s end session (x ∷ before) after b labs counts handed h =
-    walk terms x.later exit (with_more trace (steps_of x.piece)) labs.1 end x.piece.to before after b labs.4 counts.2 handed.1
+    walk terms x.later exit (with_more trace (steps_of x.piece)) (held_behind x.piece labs.0 labs.1) end x.piece.to before after b labs.4 counts.2 handed.1
     (next_holds terms (with_more trace x.piece.opening) x.piece labs.0 labs.1 counts.1.shut labs.3 (from_holds session x.piece.from s labs.0 handed.0 labs.2 h))
 
 -- behind some of them
-walk_after : (terms : Terms) (entry exit : Faults) (trace : Option (List Event)) (s end : LabState) (session : Session) (before after : List Begun) → HandLabsOn terms trace s (before ++ after) end → Counts terms entry (before ++ after) exit
-    → AreHandedOn session (before ++ after) → HoldsOf session s → (u : LabState) × HoldsOf (session_after session before) u
-walk_after terms entry exit trace s end session [] after labs counts handed h = (s, h)
+walk_after : (terms : Terms) (entry exit : Faults) (trace : Option (List Event)) (s end : Held) (session : Session) (before after : List Begun) → HandLabsOn terms trace s (before ++ after) end → Counts terms entry (before ++ after) exit
+    → AreHandedOn session (before ++ after) → HoldsOf session s.lab → (u : LabState) × HoldsOf (session_after session before) u
+walk_after terms entry exit trace s end session [] after labs counts handed h = (s.lab, h)
 walk_after terms entry exit trace s end session (x ∷ before) after labs counts handed h =
-    walk_after terms x.later exit (with_more trace (steps_of x.piece)) labs.1 end x.piece.to before after labs.4 counts.2 handed.1
+    walk_after terms x.later exit (with_more trace (steps_of x.piece)) (held_behind x.piece labs.0 labs.1) end x.piece.to before after labs.4 counts.2 handed.1
     (next_holds terms (with_more trace x.piece.opening) x.piece labs.0 labs.1 counts.1.shut labs.3 (from_holds session x.piece.from s labs.0 handed.0 labs.2 h))
 
 -- an open swap of another name
-swaps_ever : (terms : Terms) (entry exit : Faults) (trace : Option (List Event)) (s end : LabState) (session : Session) (middle after : List Begun) (name : List ℕ) → HandLabsOn terms trace s (middle ++ after) end → Counts terms entry (middle ++ after) exit
+swaps_ever : (terms : Terms) (entry exit : Faults) (trace : Option (List Event)) (s end : Held) (session : Session) (middle after : List Begun) (name : List ℕ) → HandLabsOn terms trace s (middle ++ after) end → Counts terms entry (middle ++ after) exit
     → AreHandedOn session (middle ++ after) → StayOpen middle → AreOthers name middle → open_at name (opens_of (session_after session middle)) ≡ open_at name (opens_of session)
 swaps_ever terms entry exit trace s end session [] after name labs counts handed open_now others = refl
 swaps_ever terms entry exit trace s end session (b ∷ middle) after name labs counts handed open_now others =
-    swaps_ever terms b.later exit (with_more trace (steps_of b.piece)) labs.1 end b.piece.to middle after name labs.4 counts.2 handed.1 open_now.1 others.1
+    swaps_ever terms b.later exit (with_more trace (steps_of b.piece)) (held_behind b.piece labs.0 labs.1) end b.piece.to middle after name labs.4 counts.2 handed.1 open_now.1 others.1
     ∙ swap_stays_ever terms (with_more trace b.piece.opening) b.piece labs.0 labs.1 counts.1.shut labs.3 open_now.0 name others.0 ∙ ap (λ s. open_at name (opens_of s)) handed.0
 
-labs_behind : (terms : Terms) (trace : Option (List Event)) (s end : LabState) (before rest : List Begun) → HandLabsOn terms trace s (before ++ rest) end → (t : Option (List Event)) × (u : LabState) × HandLabsOn terms t u rest end
+labs_behind : (terms : Terms) (trace : Option (List Event)) (s end : Held) (before rest : List Begun) → HandLabsOn terms trace s (before ++ rest) end → (t : Option (List Event)) × (u : Held) × HandLabsOn terms t u rest end
 labs_behind terms trace s end [] rest labs = (trace, s, labs)
-labs_behind terms trace s end (b ∷ before) rest labs = labs_behind terms (with_more trace (steps_of b.piece)) labs.1 end before rest labs.4
+labs_behind terms trace s end (b ∷ before) rest labs = labs_behind terms (with_more trace (steps_of b.piece)) (held_behind b.piece labs.0 labs.1) end before rest labs.4
 
 counts_behind : (terms : Terms) (entry exit : Faults) (before rest : List Begun) → Counts terms entry (before ++ rest) exit → (mid : Faults) × Counts terms mid rest exit
 counts_behind terms entry exit [] rest counts = (entry, counts)
@@ -159,11 +159,11 @@ counts_behind terms entry exit (b ∷ before) rest counts = counts_behind terms 
 
 -- IN A RUN
 module _ (terms : Terms) (choices : Option Choices) (old new : Outside) (status : Status) where
-  pub at_one : (before after : List Begun) (b : Begun) (r : Ran terms choices old new status (before ++ b ∷ after)) → At terms (traces_after (trace_in old.plant.told) before) b (from_in before after b r) (behind_in before after b r)
-  at_one before after b r = walk terms _ _ _ r.labs.0 r.labs.1 Closed before after b r.labs.2 r.counts r.sessions (closed_holds Closed r.labs.0 refl)
+  pub at_one : (before after : List Begun) (b : Begun) (r : Ran terms choices old new status (before ++ b ∷ after)) → At terms (traces_after (trace_in old.plant.told) before) b (held_in before after b r) (behind_in before after b r)
+  at_one before after b r = walk terms _ _ _ r.labs.0 r.labs.1 Closed before after b r.labs.2 r.counts r.sessions (closed_holds Closed r.labs.0.lab refl)
 
   pub few_ever : (before after : List Begun) → Ran terms choices old new status (before ++ after) → (length (opens_of (session_after Closed before)) ≤ 16) × AllDiffer (busy_of (session_after Closed before))
-  few_ever before after r = let h = walk_after terms _ _ _ r.labs.0 r.labs.1 Closed before after r.labs.2 r.counts r.sessions (closed_holds Closed r.labs.0 refl) in (h.1.few, h.1.differ)
+  few_ever before after r = let h = walk_after terms _ _ _ r.labs.0 r.labs.1 Closed before after r.labs.2 r.counts r.sessions (closed_holds Closed r.labs.0.lab refl) in (h.1.few, h.1.differ)
 
   pub kept_ever : (before middle after : List Begun) (name : List ℕ) → Ran terms choices old new status (before ++ (middle ++ after)) → StayOpen middle → AreOthers name middle
       → open_at name (opens_of (session_after Closed (before ++ middle))) ≡ open_at name (opens_of (session_after Closed before))
@@ -174,6 +174,9 @@ module _ (terms : Terms) (choices : Option Choices) (old new : Outside) (status 
       ∙ swaps_ever terms n.0 _ l.0 l.1 r.labs.1 (session_after Closed before) middle after name l.2 n.1 (handed_behind Closed before (middle ++ after) r.sessions) open_now others
 
   module _ (before after : List Begun) (b : Begun) (r : Ran terms choices old new status (before ++ b ∷ after)) (no_drill : drill_of b.piece.command ≡ None) where
+    abbrev at : Held
+    at = held_in before after b r
+
     abbrev mid : LabState
     mid = from_in before after b r
 
@@ -183,24 +186,24 @@ module _ (terms : Terms) (choices : Option Choices) (old new : Outside) (status 
     abbrev trace : Option (List Event)
     trace = with_more (traces_after (trace_in old.plant.told) before) b.piece.opening
 
-    here : At terms (traces_after (trace_in old.plant.told) before) b mid last
+    here : At terms (traces_after (trace_in old.plant.told) before) b at last
     here = at_one before after b r
 
     -- its own part is a lab step, or the opening broke off
-    pub own_ever : NotOpened b.piece ⊎ (OwnStep terms trace b.piece mid last × AllMove (opens_of b.piece.from) mid)
-    own_ever = ⊎_elim (λ x. inr (x, here.holds.all)) (λ broke. inl broke) (subst (λ (d : Option Drill). GoesFrom d terms trace b.piece mid last) no_drill here.goes)
+    pub own_ever : NotOpened b.piece ⊎ (OwnStep terms trace b.piece at last × AllMove (opens_of b.piece.from) mid)
+    own_ever = ⊎_elim (λ x. inr (x, here.holds.all)) (λ broke. inl broke) (subst (λ (d : Option Drill). GoesFrom d terms trace b.piece at last) no_drill here.goes)
 
     module _ (reply : Reply) (is : b.piece.reply ≡ Some reply) where
-      abbrev told_here : OwnStep terms trace b.piece mid last → Type 0
+      abbrev told_here : OwnStep terms trace b.piece at last → Type 0
       told_here x = x.told ≡ Some reply
 
-      told_ever : (x : OwnStep terms trace b.piece mid last) → told_here x
-      told_ever x = (told_to terms trace b.piece mid last (caused_at terms _ _ before after b r.counts).shut x reply is).0
+      told_ever : (x : OwnStep terms trace b.piece at last) → told_here x
+      told_ever x = (told_to terms trace b.piece at last (caused_at terms _ _ before after b r.counts).shut x reply is).0
 
-      abbrev set_here : OwnStep terms trace b.piece mid last → Setting
-      set_here x = record { length = x.length; limit = 2 ^ 32; devices = b.piece.faults.devices }
+      abbrev set_here : OwnStep terms trace b.piece at last → Setting
+      set_here x = record { length = at.length; limit = 2 ^ 32; devices = b.piece.faults.devices }
 
-      abbrev ends_here : OwnStep terms trace b.piece mid last → After
+      abbrev ends_here : OwnStep terms trace b.piece at last → After
       ends_here x = record { reply = x.told; lab = last; session = x.session }
 
       no_drill_broken : (told : Reply) → TellsBroken told → is_of_drill told ≡ false

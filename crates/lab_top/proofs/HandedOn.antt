@@ -12,7 +12,7 @@ use Rattle.plant.specs.Events.{Event, Restarted}
 use Rattle.plant.specs.Seen.{Seen}
 use Rattle.plant.specs.Told.{Told, with_steps}
 use Rattle.plant.proofs.Traces.{with_steps-append}
-use Rattle.journal_disk.specs.Standing.{limit_of}
+use Rattle.journal_disk.specs.Standing.{length_of, limit_of}
 use Rattle.journal_disk.specs.declared.fault.OpenFault.{OpenFault}
 use Rattle.journal_disk.specs.declared.fault.OpenFault.TheVariants as openings
 use Rattle.lab_state.specs.Texts.{the_texts}
@@ -33,11 +33,12 @@ use Rattle.lab_top.specs.declared.command.CommandFault.TheVariants as command_fa
 use Rattle.lab_core.proofs.OuterSteps.{no_start}
 use Rattle.swap_turns.specs.Pieces.{has_command}
 use Rattle.swap_turns.proofs.Stood.{stood_alike}
-use Rattle.lab_top.specs.Pieces.{Finds, FindsNone, IsPiece, IsPlannedBy, Later, WantsBehind, WantsOnly, behind as goes_behind, reading as in_reading, settling as in_settling, blames_if, blames_now_if, closes_if, is_closed, leaves_one, may_shut, opened, stays_open, GoesFrom, OwnStep}
-use Rattle.lab_top.specs.Answering.{Does, DoesOwn, FoundNone, HasSession, IsMarkAt, IsOpen, Makes, MayGoOn, MayOpen, StandsAt, Starts, Unopened, Begins, Made, Ends, Moment, piece_of, reply_if, HandsLab}
+use Rattle.lab_top.specs.Pieces.{Finds, FindsNone, IsPiece, IsPlannedBy, Later, WantsBehind, WantsOnly, behind as goes_behind, reading as in_reading, settling as in_settling, blames_if, blames_now_if, closes_if, is_closed, leaves_one, may_shut, opened, stays_open, GoesFrom, OwnStep, held_behind}
+use Rattle.lab_top.specs.Answering.{Does, DoesOwn, FoundNone, HasSession, IsMarkAt, IsOpen, Makes, MayGoOn, MayOpen, StandsAt, Starts, Unopened, Begins, Made, Ends, Moment, held_first, held_of, piece_of, reply_if, HandsLab}
 use Rattle.lab_top.proofs.BrokenOpenings.{again_piece, cut_piece, missed_in, nothing_outer}
 use Rattle.lab_top.proofs.Stepping.{AsRead, standing_lab, was_open, is_opened, has_led}
-use Rattle.lab_core.specs.Moments.{trace_in, with_more}
+use Rattle.lab_core.specs.Moments.{IsLengthAt, trace_in, with_more}
+use Rattle.lab_core.proofs.Composing.{standing_length}
 use Rattle.records_model.specs.Labs.{at_first}
 use Rattle.lab_top.proofs.Obeyed.{map_both, map_three, carried, opened_none, blames_none, with_more-nil, trace_steps, own_as}
 
@@ -115,12 +116,12 @@ module _ (terms : Terms) (command : Command) (no_drill : drill_of command ≡ No
   broken_lab : (reply : Option Reply) (begun : Begins terms command plant.faults plant.told new.plant.told Closed Closed reply) → begun.own ≡ [] → IfSome reply TellsBroken
       → HandsLab terms plant.told (piece_of command plant.faults Closed Closed begun.opening begun.own reply) None new.controller
   broken_lab reply begun none tells = record {
-    mid = at_first;
+    at = held_first;
     after = at_first;
     first = tt;
-    goes = subst (λ (drill : Option Drill). GoesFrom drill terms (with_more (trace_in plant.told) begun.opening) (piece_of command plant.faults Closed Closed begun.opening begun.own reply) at_first at_first) (sym no_drill)
+    goes = subst (λ (drill : Option Drill). GoesFrom drill terms (with_more (trace_in plant.told) begun.opening) (piece_of command plant.faults Closed Closed begun.opening begun.own reply) held_first at_first) (sym no_drill)
         (inr (record { closed = refl; nothing = none; shut = refl; tells = tells }));
-    last = none_there new.plant new.controller (λ c. c.lab ≡ at_first) goes_on.stands;
+    last = none_there new.plant new.controller (λ c. held_of c ≡ held_behind (piece_of command plant.faults Closed Closed begun.opening begun.own reply) held_first at_first) goes_on.stands;
   }
 
   abbrev made : (reply : Option Reply) (begun : Begins terms command plant.faults plant.told new.plant.told Closed Closed reply) → (closes_if reply ≡ true → Rose plant.faults.disk new.plant.faults.disk) → blames_if reply ≡ false → (is_some reply ≡ true → new.plant.stopped ≡ false)
@@ -255,16 +256,17 @@ ends_open terms command no_drill old new c result from is goes makes later disk 
     subst (λ f. Ends terms command old new f result) (sym s.1)
     (ends_of terms command old new (Open s.0) m.to result (begins_open terms command old.plant.faults no_drill old.plant new c s.0 (reply_if result) s.2 m)
     (record {
-      mid = c.lab;
+      at = held_of c;
       after = m.own.3.0;
-      first = subst (λ (k : Option Control). IfSome k (λ x. c.lab ≡ x.lab)) (sym is) refl;
-      goes = subst (λ (drill : Option Drill). GoesFrom drill terms (with_more (trace_in old.plant.told) []) (piece_of command old.plant.faults (Open s.0) m.to [] m.own.0 (reply_if result)) c.lab m.own.3.0) (sym no_drill)
-          (inl (subst (λ t. OwnStep terms t (piece_of command old.plant.faults (Open s.0) m.to [] m.own.0 (reply_if result)) c.lab m.own.3.0) (sym (with_more-nil (trace_in old.plant.told))) m.own.3.1));
-      last = m.lab;
+      first = subst (λ (k : Option Control). IfSome k (λ x. held_of c ≡ held_of x)) (sym is) refl;
+      goes = subst (λ (drill : Option Drill). GoesFrom drill terms (with_more (trace_in old.plant.told) []) (piece_of command old.plant.faults (Open s.0) m.to [] m.own.0 (reply_if result)) (held_of c) m.own.3.0) (sym no_drill)
+          (inl (subst (λ t. OwnStep terms t (piece_of command old.plant.faults (Open s.0) m.to [] m.own.0 (reply_if result)) (held_of c) m.own.3.0) (sym (with_more-nil (trace_in old.plant.told))) m.own.3.1));
+      last = m.held;
     }) m.closed later disk m.device m.here m.opened runs memory (λ some. m.goes_on)
-    (λ none going. map_both old.plant.told (λ t stands own. goes_behind c.lab c.lab (standing_lab t.trace c stands) refl
-    (subst (λ l. WantsBehind terms.rule command l (record { limit = 2 ^ 32; devices = old.plant.faults.devices }) c.lab s.0 m.own.0) (sym (append-nil t.trace))
-    (subst (λ n. WantsBehind terms.rule command t.trace (record { limit = n; devices = old.plant.faults.devices }) c.lab s.0 m.own.0) s.2.limit own))) s.2.works.working.work.stands (m.wants none going)))
+    (λ none going. map_both old.plant.told (λ t stands own. goes_behind c.lab c.lab (length_of c.journal) (standing_lab t.trace c stands) refl
+    (subst (λ l. IsLengthAt l (length_of c.journal)) (sym (append-nil t.trace)) (standing_length t.trace c stands))
+    (subst (λ l. WantsBehind terms.rule command l (record { length = length_of c.journal; limit = 2 ^ 32; devices = old.plant.faults.devices }) c.lab s.0 m.own.0) (sym (append-nil t.trace))
+    (subst (λ n. WantsBehind terms.rule command t.trace (record { length = length_of c.journal; limit = n; devices = old.plant.faults.devices }) c.lab s.0 m.own.0) s.2.limit own))) s.2.works.working.work.stands (m.wants none going)))
 
 -- or was opened for it
 pub ends_opened : (terms : Terms) (command : Command) → drill_of command ≡ None → (old new : Moment) (mid : Seen) (c : Control) (result : Result Reply CommandFault) (from : Session) → old.controller ≡ None → HasSession old from → OpenTold old.plant.told mid.told (2 ^ 32) (Ok c)
@@ -278,16 +280,16 @@ ends_opened terms command no_drill old new mid c result from is goes told there 
     closed_from terms command old new from result is goes
     (ends_of terms command old new Closed m.to result (begins_opened terms command old.plant.faults no_drill old.plant.told mid new c (reply_if result) told there works.working.work limit m)
     (record {
-      mid = c.lab;
+      at = held_of c;
       after = m.own.3.0;
-      first = subst (λ (k : Option Control). IfSome k (λ x. c.lab ≡ x.lab)) (sym is) tt;
-      goes = subst (λ (drill : Option Drill). GoesFrom drill terms (with_more (trace_in old.plant.told) (told.0 ++ told.1)) (piece_of command old.plant.faults Closed m.to (told.0 ++ told.1) m.own.0 (reply_if result)) c.lab m.own.3.0) (sym no_drill)
-          (inl (subst (λ t. OwnStep terms t (piece_of command old.plant.faults Closed m.to (told.0 ++ told.1) m.own.0 (reply_if result)) c.lab m.own.3.0) (ap trace_in told.2 ∙ trace_steps old.plant.told (told.0 ++ told.1))
-          (own_as terms (trace_in mid.told) command old.plant.faults (Open []) Closed m.to [] (told.0 ++ told.1) m.own.0 (reply_if result) c.lab m.own.3.0 refl m.own.3.1)));
-      last = m.lab;
+      first = subst (λ (k : Option Control). IfSome k (λ x. held_of c ≡ held_of x)) (sym is) tt;
+      goes = subst (λ (drill : Option Drill). GoesFrom drill terms (with_more (trace_in old.plant.told) (told.0 ++ told.1)) (piece_of command old.plant.faults Closed m.to (told.0 ++ told.1) m.own.0 (reply_if result)) (held_of c) m.own.3.0) (sym no_drill)
+          (inl (subst (λ t. OwnStep terms t (piece_of command old.plant.faults Closed m.to (told.0 ++ told.1) m.own.0 (reply_if result)) (held_of c) m.own.3.0) (ap trace_in told.2 ∙ trace_steps old.plant.told (told.0 ++ told.1))
+          (own_as terms (trace_in mid.told) command old.plant.faults (Open []) Closed m.to [] (told.0 ++ told.1) m.own.0 (reply_if result) (held_of c) m.own.3.0 refl m.own.3.1)));
+      last = m.held;
     }) m.closed later disk m.device (λ blamed. omega (arith, passed.devices, m.here blamed)) m.opened runs memory (λ some. m.goes_on)
     (λ none going. map_three old.plant.told (λ t o readable both.
     let w = is_opened t.trace told.0 told.1 c o both.0 limit readable in
-    goes_behind w.start c.lab w.first (w.opens refl) both.1) told.3 there
-    (carried old.plant.told mid.told (told.0 ++ told.1) told.2 (λ l. Stands the_texts l c.journal c.lab × WantsBehind terms.rule command l (record { limit = 2 ^ 32; devices = old.plant.faults.devices }) c.lab [] m.own.0)
-    (map_both mid.told (λ t stands own. (stands, subst (λ n. WantsBehind terms.rule command t.trace (record { limit = n; devices = old.plant.faults.devices }) c.lab [] m.own.0) limit own)) works.working.work.stands (m.wants none going)))))
+    goes_behind w.start c.lab (length_of c.journal) w.first (w.opens refl) (standing_length (t.trace ++ (told.0 ++ told.1)) c both.0) both.1) told.3 there
+    (carried old.plant.told mid.told (told.0 ++ told.1) told.2 (λ l. Stands the_texts l c.journal c.lab × WantsBehind terms.rule command l (record { length = length_of c.journal; limit = 2 ^ 32; devices = old.plant.faults.devices }) c.lab [] m.own.0)
+    (map_both mid.told (λ t stands own. (stands, subst (λ n. WantsBehind terms.rule command t.trace (record { length = length_of c.journal; limit = n; devices = old.plant.faults.devices }) c.lab [] m.own.0) limit own)) works.working.work.stands (m.wants none going)))))

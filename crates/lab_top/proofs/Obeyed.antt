@@ -1,5 +1,5 @@
 -- A call of the controller as a command that was done.
-use Rattle.std.proofs.Common.{◌≡◌, ◌↔◌, inl, inr, ℕ, ◌^◌, Bool, true, false, List, [], ◌∷◌, ◌++◌, length, Option, Some, None, Result, Ok, Err, refl, sym, ◌∙◌, ap, subst, arith}
+use Rattle.std.proofs.Common.{◌≡◌, ◌↔◌, ◌+◌, inl, inr, ℕ, ◌^◌, Bool, true, false, List, [], ◌∷◌, ◌++◌, length, Option, Some, None, Result, Ok, Err, refl, sym, ◌∙◌, ap, subst, arith}
 use Rattle.std.specs.Prelude.{IfSome, IsErrOf, IsTrue, OnOk, OnErr, ◌≤◌, is_some, not}
 use Rattle.std.proofs.lemmas.List.{append-nil}
 use Rattle.lab_base.specs.Counts.{Rose}
@@ -34,8 +34,9 @@ use Rattle.lab_top.specs.declared.command.CommandFault.{CommandFault}
 use Rattle.lab_judge.proofs.Fits.{fits}
 use Rattle.lab_core.proofs.Obey.{now_blames, in_trace}
 use Rattle.lab_core.proofs.Wanting.{command_wants, plain_wants}
-use Rattle.lab_top.specs.Pieces.{Later, WantsBehind, blames_if, blames_now_if, leaves_one, may_shut, opened, stays_open, OwnStep, ButForReply}
-use Rattle.lab_top.specs.Answering.{Does, HasSession, IsOpen, Makes, OwnTold, Starts, WasOpened, piece_of, reply_if, DoesEver}
+use Rattle.swap_turns.specs.Lengths.{appended}
+use Rattle.lab_top.specs.Pieces.{Later, WantsBehind, blames_if, blames_now_if, leaves_one, may_shut, opened, stays_open, Held, OwnStep, ButForReply}
+use Rattle.lab_top.specs.Answering.{Does, HasSession, IsOpen, Makes, OwnTold, Starts, WasOpened, held_of, piece_of, reply_if, DoesEver}
 use Rattle.lab_top.proofs.Stepping.{AsRead, own_answered, own_closed, own_stopped, own_stays, own_unmade, after_of, told_so}
 use Rattle.lab_core.specs.Moments.{trace_in, with_more, IsLengthAt, IsLengthBehind}
 use Rattle.lab_core.proofs.Composing.{works_length}
@@ -105,17 +106,16 @@ trace_steps None steps = refl
 trace_steps (Some t) steps = refl
 
 -- an own step of another piece with the same command, counts, reply and steps
-pub own_as : (terms : Terms) (trace : Option (List Event)) (command : Command) (mark : Faults) (from other to : Session) (opening front own : List Event) (reply : Option Reply) (mid after : LabState) → opens_of other ≡ opens_of from
-    → OwnStep terms trace (piece_of command mark from to opening own reply) mid after → OwnStep terms trace (piece_of command mark other to front own reply) mid after
-own_as terms trace command mark from other to opening front own reply mid after same x = record {
+pub own_as : (terms : Terms) (trace : Option (List Event)) (command : Command) (mark : Faults) (from other to : Session) (opening front own : List Event) (reply : Option Reply) (at : Held) (after : LabState) → opens_of other ≡ opens_of from
+    → OwnStep terms trace (piece_of command mark from to opening own reply) at after → OwnStep terms trace (piece_of command mark other to front own reply) at after
+own_as terms trace command mark from other to opening front own reply at after same x = record {
   sane = x.sane;
-  length = x.length;
   length_is = x.length_is;
   told = x.told;
   session = x.session;
   behind = x.behind;
   is_told = x.is_told;
-  step = subst (λ l. LabStep terms trace (record { length = x.length; limit = 2 ^ 32; devices = mark.devices }) mid (Open l) command [] (own ++ x.behind) (record { reply = x.told; lab = after; session = x.session })) (sym same) x.step;
+  step = subst (λ l. LabStep terms trace (record { length = at.length; limit = 2 ^ 32; devices = mark.devices }) at.lab (Open l) command [] (own ++ x.behind) (record { reply = x.told; lab = after; session = x.session })) (sym same) x.step;
 }
 
 if_traced : (told : Option Told) (P : Option (List Event) → Type 0) → P (trace_in told) → IfSome told (λ t. P (Some t.trace))
@@ -170,7 +170,6 @@ module _ (terms : Terms) (mark : Faults) (old mid : Seen) (command : Command) (n
     lab,
     record {
       sane = is.works.working.work.sane;
-      length = length_of c.journal;
       length_is = length_here;
       told = told;
       session = session;
@@ -211,6 +210,12 @@ module _ (terms : Terms) (mark : Faults) (old mid : Seen) (command : Command) (n
   abbrev AtWorkHere : List Event → Type 0
   AtWorkHere trace = Stands the_texts trace d.journal d.lab
 
+  -- the journal is longer by what it appended
+  held_now : (reply : Reply) (at : At (Ok reply)) → closes reply ≡ false → held_of d ≡ record { lab = d.lab; length = length_of c.journal + appended (at.obeys.0 ++ []) }
+  held_now reply at goes =
+      let long : length_of d.journal ≡ length_of c.journal + appended (at.obeys.0 ++ []) = at.longer (ap not goes) ∙ ap (λ l. length_of c.journal + appended l) (sym (append-nil at.obeys.0)) in
+      ap (λ (n : ℕ). let held : Held = record { lab = d.lab; length = n } in held) long
+
   -- it goes on
   pub makes_on : (reply : Reply) → At (Ok reply) → closes reply ≡ false → limit_of d.journal ≡ 2 ^ 32 → mid.stopped ≡ false → Makes terms mark command old c swaps (record { plant = mid; controller = Some d }) (Some reply)
   unfolding own_alone own_by ever
@@ -222,7 +227,7 @@ module _ (terms : Terms) (mark : Faults) (old mid : Seen) (command : Command) (n
             (λ before from opening w o stands.
             own_answered terms mark before from opening c swaps w command no_drill at.obeys.0 o.sound d at.to reply (subst (λ b. AnswersBy Done (Some (before ++ opening)) at.obeys.0 reply d.lab at.to b) goes o.ends) stands)
             (ever (at.obeys.0 ++ []) at.obeys.0 (Open at.to) (Some reply) (Some reply) (Open at.to) [] d.lab (told_so (Some reply) (Open at.to)) (as_are at.obeys.0) (subst (λ b. AnswersBy Done trace at.obeys.0 reply d.lab at.to b) goes at.obeys.2.ends));
-        lab = refl;
+        held = held_now reply at goes;
         shut = λ shut. absurd (cc shut);
         closed = λ shut. let open_now : stays_open (Some reply) ≡ true = stays_so reply goes (λ stops. open_never (command_shut terms command trace (start_of mark.devices c swaps).set swaps c.lab at.obeys.0 (open_by reply d.lab at.to)
             (subst (λ b. AnswersBy Done trace at.obeys.0 reply d.lab at.to b) goes at.obeys.2.ends) (ap (λ r. Some r) stops))) in absurd (cc (open_now, shut));
@@ -242,7 +247,7 @@ module _ (terms : Terms) (mark : Faults) (old mid : Seen) (command : Command) (n
         own_closed terms mark before from opening c swaps w command no_drill at.obeys.0 o.sound reply (not_one reply shut) (subst (λ b. AnswersBy Done (Some (before ++ opening)) at.obeys.0 reply d.lab at.to b) shut o.ends) here)
         (let leaves = subst (λ b. AnswersBy Done trace at.obeys.0 reply d.lab at.to b) shut at.obeys.2.ends in
         ever (at.obeys.0 ++ []) (at.obeys.0 ++ []) Closed (Some reply) (Some reply) Closed [] leaves.lab (told_so (Some reply) Closed) (sym (append-nil (at.obeys.0 ++ []))) (leaves.done [] []));
-    lab = tt;
+    held = tt;
     shut = λ closed. shuts_so reply shut;
     closed = λ closed. refl;
     device = at.device;
@@ -272,7 +277,7 @@ module _ (terms : Terms) (mark : Faults) (old mid : Seen) (command : Command) (n
   makes_stopped new result at starts there halts = record {
     to = Closed;
     own = own_stopped_told new.told result at starts there;
-    lab = tt;
+    held = tt;
     shut = λ closed. starts_shut mid.told new.told result starts;
     closed = λ closed. refl;
     device = λ blamed. absurd (cc (starts_blameless mid.told new.told result starts, blamed));
@@ -283,7 +288,7 @@ module _ (terms : Terms) (mark : Faults) (old mid : Seen) (command : Command) (n
   }
 
   abbrev here_ground : Ground
-  here_ground = record { limit = limit_of c.journal; devices = mark.devices }
+  here_ground = record { length = length_of c.journal; limit = limit_of c.journal; devices = mark.devices }
 
   -- memory was wanting
   pub makes_not : At (Err faults.Memory) → Makes terms mark command old c swaps (record { plant = mid; controller = None }) None
@@ -292,7 +297,7 @@ module _ (terms : Terms) (mark : Faults) (old mid : Seen) (command : Command) (n
     to = Closed;
     own = own_alone (Err faults.Memory) at Closed None AtWorkHere (at.works refl).working.work.stands (λ before from opening w o stands. own_unmade terms mark before from opening c swaps w command no_drill at.obeys.0 o.sound d (command_wants terms.rule mark.devices c swaps (Some (before ++ opening)) at.obeys.0 d.lab at.to command o.ends) stands)
         (ever (at.obeys.0 ++ []) at.obeys.0 Closed None None Closed [] d.lab (told_so None Closed) (as_are at.obeys.0) (command_wants terms.rule mark.devices c swaps trace at.obeys.0 d.lab at.to command at.obeys.2.ends));
-    lab = tt;
+    held = tt;
     shut = λ closed. refl;
     closed = λ closed. refl;
     device = λ blamed. absurd (cc blamed);

@@ -29,8 +29,8 @@ use Rattle.lab_core.specs.Sessions.{Session, Closed, Terms, Open}
 use Rattle.lab_top.specs.declared.command.CommandFault.TheVariants as faults
 use Rattle.lab_top.specs.declared.status.Status.TheVariants as statuses
 use Rattle.lab_top.specs.declared.status.Status.{Status}
-use Rattle.lab_top.specs.Answering.{Moment, HasSession, Made, Answered, marked, piece_of, StandsAt}
-use Rattle.lab_top.specs.Pieces.{Begun, steps_of, commands_of, planned_of, trace_after, traces_after, with_drill_if, with_piece, with_pieces, IsCaused, Counts, FindsNone, IsPiece, AreHandedOn, ArePieces, reply_text, reply_texts, session_after, WantsOnly, GoesFrom, HandLabsOn, is_closed}
+use Rattle.lab_top.specs.Answering.{Moment, HasSession, Made, Answered, marked, held_first, held_of, piece_of, StandsAt}
+use Rattle.lab_top.specs.Pieces.{Begun, steps_of, commands_of, planned_of, trace_after, traces_after, with_drill_if, with_piece, with_pieces, IsCaused, Counts, FindsNone, IsPiece, AreHandedOn, ArePieces, reply_text, reply_texts, session_after, WantsOnly, GoesFrom, Held, HandLabsOn, held_behind, is_closed}
 use Rattle.lab_top.specs.Ran.{AreAnswered, BegunCommands, EndsSo, GoesOn, LastFindsNone, LastIsNot, Outside, Ran, WroteReplies, Answered as StatusAnswered}
 use Rattle.lab_words.specs.Words.{Choices, Usual}
 use Rattle.lab_top.proofs.Obeyed.{goes_closed, map_both, map_three, trace_steps}
@@ -138,18 +138,18 @@ traced told (b ∷ begun) =
     ∙ ap (λ (o : Option (List Event)). traces_after o begun)
     (traced_drill (with_steps (with_mark told b.piece.faults) (steps_of b.piece)) (planned_of b) ∙ trace_steps (with_mark told b.piece.faults) (steps_of b.piece) ∙ ap (λ (o : Option (List Event)). with_more o (steps_of b.piece)) (traced_mark told b.piece.faults))
 
-labs-push : (terms : Terms) (trace : Option (List Event)) (first last : LabState) (begun : List Begun) (b : Begun) → HandLabsOn terms trace first begun last → (mid after : LabState) → (is_closed b.piece.from ≡ false → mid ≡ last)
-    → GoesFrom (drill_of b.piece.command) terms (with_more (traces_after trace begun) b.piece.opening) b.piece mid after → HandLabsOn terms trace first (begun ++ b ∷ []) after
-labs-push terms trace first last [] b is mid after from goes = (mid, after, λ open_now. from open_now ∙ is, goes, refl)
-labs-push terms trace first last (x ∷ begun) b are mid after from goes =
-    (are.0, are.1, are.2, are.3, labs-push terms (with_more trace (steps_of x.piece)) are.1 last begun b are.4 mid after from goes)
+labs-push : (terms : Terms) (trace : Option (List Event)) (first last : Held) (begun : List Begun) (b : Begun) → HandLabsOn terms trace first begun last → (at : Held) (after : LabState) → (is_closed b.piece.from ≡ false → at ≡ last)
+    → GoesFrom (drill_of b.piece.command) terms (with_more (traces_after trace begun) b.piece.opening) b.piece at after → HandLabsOn terms trace first (begun ++ b ∷ []) (held_behind b.piece at after)
+labs-push terms trace first last [] b is at after from goes = (at, after, λ open_now. from open_now ∙ is, goes, refl)
+labs-push terms trace first last (x ∷ begun) b are at after from goes =
+    (are.0, are.1, are.2, are.3, labs-push terms (with_more trace (steps_of x.piece)) (held_behind x.piece are.0 are.1) last begun b are.4 at after from goes)
 
--- where the session is open, its lab is that of the controller
-lab_there : (plant : Seen) (k : Option Control) (from : Session) (mid last : LabState) → StandsAt plant k from → IfSome k (λ c. mid ≡ c.lab) → IfSome k (λ c. c.lab ≡ last) → is_closed from ≡ false → mid ≡ last
-lab_there plant None Closed mid last at first then open_now = absurd (cc open_now)
-lab_there plant (Some c) (Open swaps) mid last at first then open_now = first ∙ then
-lab_there plant None (Open swaps) mid last at first then open_now = absurd at
-lab_there plant (Some c) Closed mid last at first then open_now = absurd at
+-- where the session is open, its lab and the length of its journal are those of the controller
+held_there : (plant : Seen) (k : Option Control) (from : Session) (at last : Held) → StandsAt plant k from → IfSome k (λ c. at ≡ held_of c) → IfSome k (λ c. held_of c ≡ last) → is_closed from ≡ false → at ≡ last
+held_there plant None Closed at last stands first then open_now = absurd (cc open_now)
+held_there plant (Some c) (Open swaps) at last stands first then open_now = first ∙ then
+held_there plant None (Open swaps) at last stands first then open_now = absurd stands
+held_there plant (Some c) Closed at last stands first then open_now = absurd stands
 
 -- THE PIECES SO FAR, from the first moment to this one
 pub record PiecesSoFar (terms : Terms) (start now : Moment) (begun : List Begun) : Type 0 where
@@ -157,8 +157,8 @@ pub record PiecesSoFar (terms : Terms) (start now : Moment) (begun : List Begun)
   pub counts : Counts terms start.plant.faults begun now.plant.faults
   pub sessions : AreHandedOn Closed begun
   pub are : IfSome start.plant.told (λ t. ArePieces terms t.trace begun)
-  pub first : LabState
-  pub last : LabState
+  pub first : Held
+  pub last : Held
   pub labs : HandLabsOn terms (trace_in start.plant.told) first begun last
 
 module _ (terms : Terms) (start before now : Moment) (begun : List Begun) (so : PiecesSoFar terms start before begun) (command : Command) (to : Session) (reply : Option Reply)
@@ -174,19 +174,19 @@ module _ (terms : Terms) (start before now : Moment) (begun : List Begun) (so : 
   pub at_mark : (P : List Event → Type 0) → IfSome (marked before).plant.told (λ u. P u.trace) → IfSome start.plant.told (λ t. P (trace_after t.trace begun))
   at_mark P h = from_told start.plant.told before.plant.told begun so.told P (unmarked before.plant.told before.plant.faults P h)
 
-  pub one_more : StandsAt before.plant before.controller (session_after Closed begun) → IfSome before.controller (λ c. c.lab ≡ so.last) → PiecesSoFar terms start now (begun ++ next ∷ [])
-  one_more stands lab = record {
+  pub one_more : StandsAt before.plant before.controller (session_after Closed begun) → IfSome before.controller (λ c. held_of c ≡ so.last) → PiecesSoFar terms start now (begun ++ next ∷ [])
+  one_more stands held = record {
     told = made.begun.told ∙ ap (λ (o : Option Told). with_piece o next) so.told ∙ sym (told-push start.plant.told begun next);
     counts = counts-push terms start.plant.faults before.plant.faults begun next so.counts refl
         (record { later = made.later; disk = made.disk; device = made.device; here = made.here; opened = made.opened; planned = made.begun.planned_by; shut = made.shut });
     sessions = sessions-push Closed begun next so.sessions refl;
     are = map_both start.plant.told (λ t are is. pieces-push terms t.trace begun next are is) so.are (at_mark (λ l. IsPiece terms l next.piece) made.begun.is_piece);
     first = so.first;
-    last = made.labs.after;
+    last = held_behind next.piece made.labs.at made.labs.after;
     labs =
-        labs-push terms (trace_in start.plant.told) so.first so.last begun next so.labs made.labs.mid made.labs.after
-        (lab_there before.plant before.controller (session_after Closed begun) made.labs.mid so.last stands made.labs.first lab)
-        (subst (λ (o : Option (List Event)). GoesFrom (drill_of command) terms (with_more o made.begun.opening) next.piece made.labs.mid made.labs.after)
+        labs-push terms (trace_in start.plant.told) so.first so.last begun next so.labs made.labs.at made.labs.after
+        (held_there before.plant before.controller (session_after Closed begun) made.labs.at so.last stands made.labs.first held)
+        (subst (λ (o : Option (List Event)). GoesFrom (drill_of command) terms (with_more o made.begun.opening) next.piece made.labs.at made.labs.after)
         (traced_mark before.plant.told before.plant.faults ∙ ap trace_in so.told ∙ traced start.plant.told begun) made.labs.goes);
   }
 
@@ -194,15 +194,15 @@ module _ (terms : Terms) (start before now : Moment) (begun : List Begun) (so : 
 pub record Going (terms : Terms) (start now : Moment) (first written : Option (List ℕ)) (begun : List Begun) : Type 0 where
   pub so : PiecesSoFar terms start now begun
   pub goes_on : HasSession now (session_after Closed begun)
-  pub lab : IfSome now.controller (λ c. c.lab ≡ so.last)
+  pub held : IfSome now.controller (λ c. held_of c ≡ so.last)
   pub answered : AreAnswered begun
   pub wrote : written ≡ append_known first (reply_texts begun)
   pub runs : start.plant.stopped ≡ false → now.plant.stopped ≡ false
 
 pub going_none : (terms : Terms) (start : Moment) (written : Option (List ℕ)) → start.controller ≡ None → Going terms start start written written []
 going_none terms start written none = record {
-  so = record { told = refl; counts = refl; sessions = tt; are = all_some start.plant.told (λ t. tt); first = at_first; last = at_first; labs = refl };
-  lab = subst (λ (k : Option Control). IfSome k (λ c. c.lab ≡ at_first)) (sym none) tt;
+  so = record { told = refl; counts = refl; sessions = tt; are = all_some start.plant.told (λ t. tt); first = held_first; last = held_first; labs = refl };
+  held = subst (λ (k : Option Control). IfSome k (λ c. held_of c ≡ held_first)) (sym none) tt;
   goes_on = subst (λ (k : Option Control). HasSession (record { plant = start.plant; controller = k }) Closed) (sym none) (goes_closed start.plant);
   answered = refl;
   wrote = sym (append_known-nil written);
@@ -261,9 +261,9 @@ module _ (terms : Terms) (start before now : Moment) (first old new : Option (Li
     one = next terms start before now begun going.so command to reply made
 
     so_now : PiecesSoFar terms start now (begun ++ one ∷ [])
-    so_now = one_more terms start before now begun going.so command to reply made going.goes_on.stands going.lab
+    so_now = one_more terms start before now begun going.so command to reply made going.goes_on.stands going.held
 
-    last_now : so_now.last ≡ made.labs.after
+    last_now : so_now.last ≡ held_behind one.piece made.labs.at made.labs.after
     unfolding so_now one_more
     last_now = refl
 
@@ -275,7 +275,7 @@ module _ (terms : Terms) (start before now : Moment) (first old new : Option (Li
         record {
           so = so_now to (Some reply) made;
           goes_on = subst (HasSession now) (sym (session-push Closed begun b)) (made.goes_on refl);
-          lab = some_weaker now.controller _ _ (λ c is. is ∙ sym (last_now to (Some reply) made)) made.labs.last;
+          held = some_weaker now.controller _ _ (λ c is. is ∙ sym (last_now to (Some reply) made)) made.labs.last;
           answered = answered-push begun b going.answered refl;
           wrote = wrote_more (text_of reply) wrote ∙ ap (append_known first) (sym (texts-push begun b));
           runs = λ was. made.runs refl (going.runs was);

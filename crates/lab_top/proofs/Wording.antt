@@ -16,6 +16,7 @@ use Rattle.lab_gen.specs.Script.{generated}
 use Rattle.lab_gen.specs.Summary.{summary}
 use Rattle.lab_top.specs.declared.status.Status.{Status}
 use Rattle.lab_top.specs.declared.status.Status.TheVariants as statuses
+use Rattle.lab_top.specs.Answering.{held_first}
 use Rattle.lab_top.specs.Pieces.{Begun, commands_of}
 use Rattle.lab_top.specs.Ran.{Answered, AreAnswered, AreFirst, BegunBy, BegunCommands, EndsSo, Finishes, GeneratedCommands, GoesOn, Numbered, Outside, Ran, WroteBy, WroteSummary, number_of, rule_of}
 use Rattle.lab_top.specs.Tellers.{replies_of}
@@ -45,7 +46,7 @@ unbegun terms choices out = record {
   counts = refl;
   sessions = tt;
   goes_on = λ runs. tt;
-  labs = (at_first, at_first, refl);
+  labs = (held_first, held_first, refl);
   pieces = all_some out.plant.told (λ t. tt);
   ends = all_some out.plant.told (λ t runs. inl refl);
   sound = still_sound out.plant.told;
@@ -63,7 +64,7 @@ refused_so terms choices out is = record {
   counts = refl;
   sessions = tt;
   goes_on = λ runs. runs;
-  labs = (at_first, at_first, refl);
+  labs = (held_first, held_first, refl);
   pieces = all_some out.plant.told (λ t. tt);
   ends = all_some out.plant.told (λ t. tt);
   sound = still_sound out.plant.told;

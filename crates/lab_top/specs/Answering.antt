@@ -1,5 +1,5 @@
 -- The plant and the controller behind one command.
-use Rattle.std.specs.Prelude.{◌≡◌, ◌⊎◌, ℕ, ◌<◌, ◌≤◌, ◌^◌, Bool, true, false, is_some, List, [], ◌∷◌, ◌++◌, length, take, Option, Some, None, IfSome, Result, Ok, Err, if◌then◌else◌}
+use Rattle.std.specs.Prelude.{◌≡◌, ◌⊎◌, ℕ, ◌<◌, ◌≤◌, ◌+◌, ◌^◌, Bool, true, false, is_some, List, [], ◌∷◌, ◌++◌, length, take, Option, Some, None, IfSome, Result, Ok, Err, if◌then◌else◌}
 use Rattle.std.specs.Io.KnownBytes.{append_known}
 use Rattle.lab_base.specs.Counts.{Rose}
 use Rattle.plant.specs.Disks.{disk, ArePossible}
@@ -10,11 +10,12 @@ use Rattle.plant.specs.declared.drill.Drill.{Drill}
 use Rattle.plant.specs.declared.moment.Faults.{Faults}
 use Rattle.plant.specs.declared.step.Side.{Side}
 use Rattle.plant.specs.declared.step.Side.TheVariants.{A, B}
-use Rattle.records_model.specs.Labs.{LabState}
+use Rattle.records_model.specs.Labs.{LabState, at_first}
 use Rattle.records_model.specs.Works.{IsSound}
-use Rattle.journal_disk.specs.Standing.{limit_of}
+use Rattle.journal_disk.specs.Standing.{length_of, limit_of}
 use Rattle.journal_disk.specs.declared.fault.OpenFault.{OpenFault}
 use Rattle.journal_disk.specs.declared.fault.OpenFault.TheVariants as openings
+use Rattle.swap_turns.specs.Lengths.{appended}
 use Rattle.swap_turns.specs.Pieces.{has_restart}
 use Rattle.lab_state.specs.Texts.{the_texts}
 use Rattle.swap_turns.specs.Running.{Stands}
@@ -32,7 +33,7 @@ use Rattle.lab_tasks.specs.OpenNames.{name_of}
 use Rattle.lab_core.specs.Tells.{opens_of}
 use Rattle.lab_top.specs.declared.command.CommandFault.{CommandFault}
 use Rattle.lab_top.specs.declared.command.CommandFault.TheVariants.{Memory, WriteFault, JournalBad}
-use Rattle.lab_top.specs.Pieces.{Piece, FindsNone, IsDone, IsPiece, IsPlannedBy, Leads, Later, StepsFrom, WantsBehind, WantsOnly, blames_if, blames_now_if, closes_if, is_closed, may_shut, stays_open, with_drill_if, GoesFrom, OwnStep}
+use Rattle.lab_top.specs.Pieces.{Piece, FindsNone, IsDone, IsPiece, IsPlannedBy, Leads, Later, StepsFrom, WantsBehind, WantsOnly, blames_if, blames_now_if, closes_if, is_closed, may_shut, stays_open, with_drill_if, GoesFrom, Held, OwnStep, held_behind}
 
 -- what is seen of the plant between two commands, and the controller where it is open
 pub record Moment : Type 0 where
@@ -89,9 +90,16 @@ abbrev pub DoesOwn : Terms → List Event → Command → Faults → Control →
 DoesOwn terms trace command mark c swaps own to reply = (before : List Event) (from : Session) (opening : List Event) → trace ≡ before ++ opening → WasOpened before from opening c swaps
     → Does terms before (piece_of command mark from to opening own reply)
 
+-- what a controller holds, and what is held before the first opening
+abbrev pub held_of : Control → Held
+held_of c = record { lab = c.lab; length = length_of c.journal }
+
+abbrev pub held_first : Held
+held_first = record { lab = at_first; length = 0 }
+
 -- over every plant: a lab step, to that lab
 abbrev pub DoesEver : Terms → Option (List Event) → Command → Faults → Control → List OpenSwap → List Event → Session → Option Reply → Type 0
-DoesEver terms trace command mark c swaps own to reply = (after : LabState) × OwnStep terms trace (piece_of command mark (Open swaps) to [] own reply) c.lab after
+DoesEver terms trace command mark c swaps own to reply = (after : LabState) × OwnStep terms trace (piece_of command mark (Open swaps) to [] own reply) (held_of c) after
 
 abbrev pub OwnTold : Terms → Option Told → Option Told → Command → Faults → Control → List OpenSwap → Session → Option Reply → Type 0
 OwnTold terms old new command mark c swaps to reply =
@@ -109,14 +117,14 @@ reply_if (Err fault) = None
 pub record Makes (terms : Terms) (mark : Faults) (command : Command) (old : Seen) (c : Control) (swaps : List OpenSwap) (new : Moment) (reply : Option Reply) : Type 0 where
   pub to : Session
   pub own : OwnTold terms old.told new.plant.told command mark c swaps to reply
-  pub lab : IfSome new.controller (λ d. d.lab ≡ own.3.0)
+  pub held : IfSome new.controller (λ d. held_of d ≡ record { lab = own.3.0; length = length_of c.journal + appended own.0 })
   pub shut : is_closed to ≡ true → may_shut reply ≡ true
   pub closed : stays_open reply ≡ false → to ≡ Closed
   pub device : blames_if reply ≡ true → Rose (counted_from swaps (name_of command) mark.devices) new.plant.faults.devices
   pub here : blames_now_if reply ≡ true → Rose old.faults.devices new.plant.faults.devices
   pub opened : AreOpenedBy (name_of command) reply swaps (opens_of to) mark.devices
   pub goes_on : HasSession new to
-  pub wants : is_some reply ≡ false → new.plant.stopped ≡ false → IfSome old.told (λ t. WantsBehind terms.rule command t.trace (record { limit = limit_of c.journal; devices = mark.devices }) c.lab swaps own.0)
+  pub wants : is_some reply ≡ false → new.plant.stopped ≡ false → IfSome old.told (λ t. WantsBehind terms.rule command t.trace (record { length = length_of c.journal; limit = limit_of c.journal; devices = mark.devices }) c.lab swaps own.0)
 
 -- A DRILL IS PLANNED on a plant that takes drills, and else refused; or memory is wanting, and nothing is done
 abbrev pub Plans : Bool → Drill → Option Told → Option Told → Result Reply CommandFault → Type 0
@@ -144,13 +152,14 @@ pub record Begins (terms : Terms) (command : Command) (mark : Faults) (old new :
   pub planned_by : IsPlannedBy terms (drill_of command) planned reply
   pub is_piece : IfSome old (λ t. IsPiece terms t.trace (piece_of command mark from to opening own reply))
 
--- THE LAB IS HANDED ON, over every plant: from that of the controller before the command, where it was open, to that of the one behind it
+-- THE LAB IS HANDED ON, over every plant, with the length of the journal: from those of the controller before the command, where it was open, to those of
+-- the one behind it
 pub record HandsLab (terms : Terms) (told : Option Told) (piece : Piece) (old new : Option Control) : Type 0 where
-  pub mid : LabState
+  pub at : Held
   pub after : LabState
-  pub first : IfSome old (λ c. mid ≡ c.lab)
-  pub goes : GoesFrom (drill_of piece.command) terms (with_more (trace_in told) piece.opening) piece mid after
-  pub last : IfSome new (λ c. c.lab ≡ after)
+  pub first : IfSome old (λ c. at ≡ held_of c)
+  pub goes : GoesFrom (drill_of piece.command) terms (with_more (trace_in told) piece.opening) piece at after
+  pub last : IfSome new (λ c. held_of c ≡ held_behind piece at after)
 
 pub record Made (terms : Terms) (command : Command) (old new : Moment) (from to : Session) (reply : Option Reply) : Type 0 where
   pub begun : Begins terms command old.plant.faults old.plant.told new.plant.told from to reply

@@ -20,6 +20,7 @@ use Rattle.records_model.specs.Labs.{LabState, find, is_out, Sane}
 use Rattle.records_model.specs.Works.{IsSound}
 use Rattle.journal_disk.specs.Before.{are_synced}
 use Rattle.journal_disk.specs.Opening.{both_synced}
+use Rattle.swap_turns.specs.Lengths.{appended}
 use Rattle.swap_turns.specs.Pieces.{has_miss, has_restart}
 use Rattle.lab_state.specs.Texts.{the_texts}
 use Rattle.script_text.specs.declared.command.Command.{Command}
@@ -350,8 +351,9 @@ pub data WantsOnly (terms : Terms) (trace : List Event) (piece : Piece) : Type 0
   reading : Reads piece.opening → piece.own ≡ [] → WantsOnly terms trace piece
   settling : (s after : LabState) (front moving : List Event) → IsLabAt trace s → piece.opening ≡ front ++ moving → Reads front → has_miss front ≡ false → has_restart front ≡ false → SettlesFirst s [] moving after
       → piece.own ≡ [] → WantsOnly terms trace piece
-  behind : (s mid : LabState) → IsLabAt trace s → BeginsAt piece.from s piece.opening mid
-      → WantsBehind terms.rule piece.command (trace ++ piece.opening) (record { limit = 2 ^ 32; devices = piece.faults.devices }) mid (opens_of piece.from) piece.own → WantsOnly terms trace piece
+  behind : (s mid : LabState) (length : ℕ) → IsLabAt trace s → BeginsAt piece.from s piece.opening mid → IsLengthAt (trace ++ piece.opening) length
+      → WantsBehind terms.rule piece.command (trace ++ piece.opening) (record { length = length; limit = 2 ^ 32; devices = piece.faults.devices }) mid (opens_of piece.from) piece.own
+      → WantsOnly terms trace piece
 
 -- each image that is possible stands for a lab in which the experiment is so
 abbrev pub AllHave : List Event → Experiment → Type 0
@@ -408,17 +410,22 @@ ArePieces terms trace (b ∷ begun) = IsPiece terms trace b.piece × ArePieces t
 
 -- OVER EVERY PLANT, whether it tells its past or not
 
--- A COMMAND'S OWN PART IS A LAB STEP of an open session, from the lab at which it begins to the one behind it: by a length of the journal that is within
--- its limit, and where the trace is told up to this part, that of the sides there. One that isn't answered is such a step but for its reply.
-pub record OwnStep (terms : Terms) (trace : Option (List Event)) (piece : Piece) (mid after : LabState) : Type 0 where
-  pub sane : Sane mid
+-- WHERE A COMMAND'S OWN PART BEGINS: the lab of the controller, and the length of its journal
+pub record Held : Type 0 where
+  pub lab : LabState
   pub length : ℕ
-  pub length_is : IsLengthBehind trace [] (2 ^ 32) length
+
+-- A COMMAND'S OWN PART IS A LAB STEP of an open session, from the lab at which it begins to the one behind it: by the length that the journal has there,
+-- which is within its limit, and where the trace is told up to this part, that of the sides there. One that isn't answered is such a step but for its
+-- reply.
+pub record OwnStep (terms : Terms) (trace : Option (List Event)) (piece : Piece) (at : Held) (after : LabState) : Type 0 where
+  pub sane : Sane at.lab
+  pub length_is : IsLengthBehind trace [] (2 ^ 32) at.length
   pub told : Option Reply
   pub session : Session
   pub behind : List Event
   pub is_told : ButForReply piece.reply piece.to told session behind
-  pub step : LabStep terms trace (record { length = length; limit = 2 ^ 32; devices = piece.faults.devices }) mid (Open (opens_of piece.from)) piece.command [] (piece.own ++ behind) (record { reply = told; lab = after; session = session })
+  pub step : LabStep terms trace (record { length = at.length; limit = 2 ^ 32; devices = piece.faults.devices }) at.lab (Open (opens_of piece.from)) piece.command [] (piece.own ++ behind) (record { reply = told; lab = after; session = session })
 
 -- its opening broke off, and nothing of its own was done
 pub record NotOpened (piece : Piece) : Type 0 where
@@ -428,28 +435,32 @@ pub record NotOpened (piece : Piece) : Type 0 where
   pub tells : IfSome piece.reply TellsBroken
 
 -- WHAT A COMMAND DOES of its own, from one lab to another; a drill leaves the lab, and the session where it is answered
-abbrev pub GoesFrom : Option Drill → Terms → Option (List Event) → Piece → LabState → LabState → Type 0
-GoesFrom (Some drill) terms trace piece mid after = (after ≡ mid) × (is_some piece.reply ≡ true → piece.to ≡ piece.from)
-GoesFrom None terms trace piece mid after = OwnStep terms trace piece mid after ⊎ NotOpened piece
+abbrev pub GoesFrom : Option Drill → Terms → Option (List Event) → Piece → Held → LabState → Type 0
+GoesFrom (Some drill) terms trace piece at after = (after ≡ at.lab) × (is_some piece.reply ≡ true → piece.to ≡ piece.from)
+GoesFrom None terms trace piece at after = OwnStep terms trace piece at after ⊎ NotOpened piece
 
--- THE LAB OF THE SESSION IS HANDED ON, from one lab to the last: a command that finds the session open begins at the lab that the one before it left; one
--- that opens it begins at that to which its opening led
-abbrev pub HandLabsOn : Terms → Option (List Event) → LabState → List Begun → LabState → Type 0
-HandLabsOn terms trace s [] last = last ≡ s
-HandLabsOn terms trace s (b ∷ begun) last =
-    (mid : LabState) × (after : LabState) × (is_closed b.piece.from ≡ false → mid ≡ s) × GoesFrom (drill_of b.piece.command) terms (with_more trace b.piece.opening) b.piece mid after
-    × HandLabsOn terms (with_more trace (steps_of b.piece)) after begun last
+-- behind it: that lab, and a journal that is longer by the records that it appended
+abbrev pub held_behind : Piece → Held → LabState → Held
+held_behind piece at after = record { lab = after; length = at.length + appended piece.own }
 
--- AMONG LABS THAT ARE HANDED ON, that from which the command behind these goes in its own part, and that to which it leads
-abbrev pub lab_from : (terms : Terms) (trace : Option (List Event)) (s last : LabState) (before after : List Begun) (b : Begun)
-    → HandLabsOn terms trace s (before ++ b ∷ after) last → LabState
-lab_from terms trace s last [] after b labs = labs.0
-lab_from terms trace s last (x ∷ before) after b labs = lab_from terms (with_more trace (steps_of x.piece)) labs.1 last before after b labs.4
+-- THE LAB OF THE SESSION AND THE LENGTH OF ITS JOURNAL ARE HANDED ON, to the last: a command that finds the session open begins at those that the one
+-- before it left; one that opens it begins at those to which its opening led
+abbrev pub HandLabsOn : Terms → Option (List Event) → Held → List Begun → Held → Type 0
+HandLabsOn terms trace held [] last = last ≡ held
+HandLabsOn terms trace held (b ∷ begun) last =
+    (at : Held) × (after : LabState) × (is_closed b.piece.from ≡ false → at ≡ held) × GoesFrom (drill_of b.piece.command) terms (with_more trace b.piece.opening) b.piece at after
+    × HandLabsOn terms (with_more trace (steps_of b.piece)) (held_behind b.piece at after) begun last
 
-abbrev pub lab_behind : (terms : Terms) (trace : Option (List Event)) (s last : LabState) (before after : List Begun) (b : Begun)
-    → HandLabsOn terms trace s (before ++ b ∷ after) last → LabState
-lab_behind terms trace s last [] after b labs = labs.1
-lab_behind terms trace s last (x ∷ before) after b labs = lab_behind terms (with_more trace (steps_of x.piece)) labs.1 last before after b labs.4
+-- AMONG LABS THAT ARE HANDED ON, that from which the command behind these goes in its own part, with the length, and the lab to which it leads
+abbrev pub held_from : (terms : Terms) (trace : Option (List Event)) (held last : Held) (before after : List Begun) (b : Begun)
+    → HandLabsOn terms trace held (before ++ b ∷ after) last → Held
+held_from terms trace held last [] after b labs = labs.0
+held_from terms trace held last (x ∷ before) after b labs = held_from terms (with_more trace (steps_of x.piece)) (held_behind x.piece labs.0 labs.1) last before after b labs.4
+
+abbrev pub lab_behind : (terms : Terms) (trace : Option (List Event)) (held last : Held) (before after : List Begun) (b : Begun)
+    → HandLabsOn terms trace held (before ++ b ∷ after) last → LabState
+lab_behind terms trace held last [] after b labs = labs.1
+lab_behind terms trace held last (x ∷ before) after b labs = lab_behind terms (with_more trace (steps_of x.piece)) (held_behind x.piece labs.0 labs.1) last before after b labs.4
 
 -- the text of the reply, if there is one
 abbrev pub text_if : Option Reply → List ℕ

@@ -17,7 +17,7 @@ use Rattle.script_text.specs.Taking.{IsWithin}
 use Rattle.lab_top.specs.declared.status.Status.{Status}
 use Rattle.lab_top.specs.declared.status.Status.TheVariants.{Done, ReadFault, WriteFault, Usage, BadScript, Memory, JournalBad}
 use Rattle.lab_core.specs.Sessions.{Closed, Terms}
-use Rattle.lab_top.specs.Pieces.{Begun, AreHandedOn, ArePieces, Counts, FindsNone, commands_of, trace_after, with_pieces, reply_text, reply_texts, WantsOnly, HandLabsOn, lab_from, lab_behind}
+use Rattle.lab_top.specs.Pieces.{Begun, AreHandedOn, ArePieces, Counts, FindsNone, commands_of, trace_after, with_pieces, reply_text, reply_texts, WantsOnly, Held, HandLabsOn, held_from, lab_behind}
 use Rattle.lab_top.specs.Tellers.{replies_of}
 use Rattle.lab_gen.specs.Script.{generated}
 use Rattle.lab_gen.specs.Summary.{summary}
@@ -187,8 +187,9 @@ pub record Ran (terms : Terms) (choices : Option Choices) (old new : Outside) (s
   -- the session is closed at first, and handed on
   pub sessions : AreHandedOn Closed made
   pub goes_on : old.plant.stopped ≡ false → GoesOn status new.plant.stopped
-  -- over every plant, one that tells nothing too, each command is a lab step of its own part, and the lab of the session is handed on
-  pub labs : (first : LabState) × (last : LabState) × HandLabsOn terms (trace_in old.plant.told) first made last
+  -- over every plant, one that tells nothing too, each command is a lab step of its own part, and the lab of the session is handed on, with the length of
+  -- the journal
+  pub labs : (first : Held) × (last : Held) × HandLabsOn terms (trace_in old.plant.told) first made last
   -- over any trace each command finds the journal as its piece says, and is a lab step, from the lab of the moment before it to that of the moment after
   -- it, where it leaves the session open; over one that is sound at the entry each is
   pub pieces : IfSome old.plant.told (λ t. ArePieces terms t.trace made)
@@ -202,10 +203,15 @@ pub record Ran (terms : Terms) (choices : Option Choices) (old new : Outside) (s
   -- the output is the replies, or of a generated run their summary
   pub wrote : WroteBy (number_of choices) old.written new.written made status
 
--- THE LABS OF A RUN, as they are handed on in it: that from which the command behind these goes in its own part, and that to which it leads
+-- THE LABS OF A RUN, as they are handed on in it: that from which the command behind these goes in its own part, with the length of the journal there, and
+-- that to which it leads
+abbrev pub held_in : {terms : Terms} {choices : Option Choices} {old new : Outside} {status : Status} (before after : List Begun) (b : Begun)
+    → Ran terms choices old new status (before ++ b ∷ after) → Held
+held_in {terms} {choices} {old} before after b r = held_from terms (trace_in old.plant.told) r.labs.0 r.labs.1 before after b r.labs.2
+
 abbrev pub from_in : {terms : Terms} {choices : Option Choices} {old new : Outside} {status : Status} (before after : List Begun) (b : Begun)
     → Ran terms choices old new status (before ++ b ∷ after) → LabState
-from_in {terms} {choices} {old} before after b r = lab_from terms (trace_in old.plant.told) r.labs.0 r.labs.1 before after b r.labs.2
+from_in before after b r = (held_in before after b r).lab
 
 abbrev pub behind_in : {terms : Terms} {choices : Option Choices} {old new : Outside} {status : Status} (before after : List Begun) (b : Begun)
     → Ran terms choices old new status (before ++ b ∷ after) → LabState

@@ -8,14 +8,15 @@ ghost use Rattle.lab_core.specs.Moments.{trace_in, with_more};
 ghost use Rattle.lab_core.specs.Sessions.{Closed, open_at, Terms};
 ghost use Rattle.lab_core.specs.Tells.{AllMove, Hinders, IsFeasibleFor, busy_of, is_of_drill, opens_of, taken_reply};
 ghost use Rattle.lab_top.specs.Pieces.{AreOthers, Begun, NotOpened, OwnStep, StayOpen, session_after, traces_after};
-ghost use Rattle.lab_top.specs.Ran.{Outside, Ran, behind_in, from_in};
+ghost use Rattle.lab_top.specs.Ran.{Outside, Ran, behind_in, from_in, held_in};
 ghost use Rattle.lab_top.specs.declared.status.Status.{Status};
 ghost use Rattle.lab_words.specs.Words.{Choices};
 
 use swap_mgr::MAX_OPEN;
 
 /// A run over every plant, one that tells nothing of its past too: between two openings the replies are those of an abstract lab.
-/// The labs are those that the run hands on: a command that finds the session open goes from the lab that the one before it left.
+/// The labs are those that the run hands on: a command that finds the session open goes from the lab that the one before it left. The length of the
+/// journal goes with them: it is longer by the records that the one before it appended.
 /// The own part of a command that is no drill is a lab step of an open session between its two labs, unless its opening broke off; and in the lab from
 /// which it goes the experiment of each open swap moves.
 /// Unless its opening broke off, a supplied solution is swapped in, or its swap begins where `open` stands before the command, exactly where it is
@@ -26,7 +27,7 @@ pub fn every_plant()
     ensures steps { (terms : Terms) (choices : Option Choices) (old new : Outside) (status : Status) (before after : List Begun) (b : Begun)
         → (r : Ran terms choices old new status (before ++ b ∷ after)) → drill_of b.piece.command ≡ None
         → NotOpened b.piece ⊎ (OwnStep terms (with_more (traces_after (trace_in old.plant.told) before) b.piece.opening) b.piece
-        (from_in before after b r) (behind_in before after b r) × AllMove (opens_of b.piece.from) (from_in before after b r)) }
+        (held_in before after b r) (behind_in before after b r) × AllMove (opens_of b.piece.from) (from_in before after b r)) }
     ensures solutions { (terms : Terms) (choices : Option Choices) (old new : Outside) (status : Status) (before after : List Begun) (b : Begun)
         (only_begin : Bool) (exp text : List ℕ) (lines : ℕ) (reply : Reply)
         → (r : Ran terms choices old new status (before ++ b ∷ after)) → b.piece.command ≡ SwapinWith only_begin exp lines text → b.piece.reply ≡ Some reply
