@@ -6,11 +6,9 @@
 //! build PART..                what comes of switches and trunks that are added to a lab, and how many trunks and switches it has then
 //! sides LAB                   by trunk, which switches are on its first side
 //! check TOP TOP               the check of a wiring, and of one with the nodes of another too
-//! stands ROW COMMAND..        whether a row stands after commands; one behind a `!` was not applied
 //! isolated LAB TEXT WORD..    whether a world is isolated: rows `s1:1:100`, pipes `pipe:a:e0:e1`, and what is wanted `e:new:l:s1:1:100`
-//! world LAB EXP.. | COMMAND.. whether the experiments' claims hold, and the world is isolated and cabled, where the mappings suit the lab
-//! gate WORD..                 the records from a gate on, and whether a closed one ends them
-//! two SIDE SIDE               what two sides of a journal are read as, where `-` is an empty one
+//! world LAB EXP.. | COMMAND.. whether the experiments' claims hold, and the world is isolated and cabled, where the mappings suit the lab;
+//!                             a command behind a `!` was not applied
 //! follow RECORD..             whether each record can follow, and what it leaves of the first trunk; and how many experiments there are then
 //! replay RECORD RECORD RECORD how many experiments three records give, or the number of the first that can't follow
 //! pack RECORD.. | RECORD..    whether the lab of some records is packed into others
@@ -41,7 +39,6 @@ mod promises;
 mod reading;
 mod records;
 mod rules;
-mod sides;
 mod steps;
 mod texts;
 mod waits;
@@ -65,7 +62,6 @@ fn tell_of_worlds(
         "build" => builds::tell(out, alloc, words)?,
         "sides" => builds::tell_sides(out, alloc, texts, words)?,
         "check" => builds::tell_check(out, alloc, texts, words)?,
-        "stands" => steps::tell(out, alloc, words)?,
         "isolated" => isolation::tell(out, alloc, texts, words)?,
         "world" => worlds::tell(out, alloc, texts, words)?,
         _ => return Ok(false),
@@ -82,8 +78,6 @@ fn tell_of_records(
     words: &[&[u8]],
 ) -> Result<bool, Untold> {
     match kind {
-        "gate" => sides::tell(out, alloc, texts, words)?,
-        "two" => sides::tell_two(out, alloc, texts, words)?,
         "follow" => records::tell(out, alloc, texts, words)?,
         "replay" => records::tell_three(out, alloc, texts, words)?,
         "pack" => records::tell_packed(out, alloc, texts, words)?,

@@ -1,10 +1,10 @@
-//! Commands that were sent to devices, and the rows that they leave.
+//! Commands that were sent to devices, and rows.
 use crate::texts::Texts;
-use lab_base::{Boot, Items, Kind, Name, Rates, Text, VlanId, fields_in, name_in};
-use line_text::{field_at, name_at};
-use plain_model::{Sent, has_row};
+use lab_base::{Boot, Items, Kind, Name, Rates, VlanId, fields_in, name_in};
+use line_text::name_at;
+use plain_model::Sent;
 use plant::{Answer, DeviceOp, Fault};
-use row_words::{Untold, number_at, pair_of, parts_of, push_answer};
+use row_words::{Untold, number_at, pair_of, parts_of};
 use std::alloc::Global;
 use std::str;
 use swap_plan::Port;
@@ -129,15 +129,4 @@ pub fn row_of(parts: &[&[u8]]) -> Result<Port, Untold> {
         port: number_at(parts, 1)?,
         vlan: VlanId(number_at(parts, 2)?),
     })
-}
-
-/// Whether the row of the first word stands after the commands of the others.
-pub fn tell(out: &mut Text, alloc: Global, words: &[&[u8]]) -> Result<(), Untold> {
-    let row = row_of(&parts_of(alloc, field_at(words, 0))?)?;
-    let mut steps = Items::new(alloc);
-    for word in words.iter().skip(1) {
-        add_step(alloc, &mut steps, word)?;
-    }
-    push_answer(out, has_row(steps.as_slice(), &row))?;
-    Ok(())
 }

@@ -68,7 +68,7 @@ fn push_word(text: &mut Text, texts: &Texts, word: &[u8]) -> Result<(), Untold> 
 }
 
 /// The bytes that words say, one behind another.
-pub fn bytes_of(alloc: Global, texts: &Texts, words: &[&[u8]]) -> Result<Text, Untold> {
+fn bytes_of(alloc: Global, texts: &Texts, words: &[&[u8]]) -> Result<Text, Untold> {
     let mut bytes = Text::new(alloc);
     for word in words {
         push_word(&mut bytes, texts, word)?;

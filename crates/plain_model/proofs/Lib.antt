@@ -3,7 +3,8 @@ mod HoldsLaws
 mod IsolationLaws
 mod Neighbours
 mod NodeLaws
-mod ReadLaws
 mod RowLaws
+mod Rows
 mod SeenLaws
+mod Sides
 mod WantLaws

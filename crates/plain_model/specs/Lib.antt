@@ -3,7 +3,6 @@ pub mod EndsView
 pub mod Holds
 pub mod Isolation
 pub mod OwnerView
-pub mod Readings
 pub mod Rows
 pub mod WantedRows
 pub mod WantedView
