@@ -1,5 +1,5 @@
 -- Running sums after one end went to another plug.
-use Rattle.std.proofs.Common.{◌≡◌, ◌≢◌, ◌<◌, ◌≤◌, ◌+◌, ◌-◌, ◌*◌, ◌⊎◌, ◌∙◌, inl, inr, ℕ, Bool, true, false, List, length, get_or, ap, sym, subst, arith}
+use Rattle.std.proofs.Common.{◌≡◌, ◌≢◌, ◌<◌, ◌≤◌, ◌+◌, ◌-◌, ◌*◌, ◌⊎◌, ◌∙◌, [], inl, inr, ℕ, Bool, true, false, List, length, get_or, refl, ap, sym, subst, arith}
 use Rattle.std.proofs.Math.ListN.{set}
 use Rattle.std.specs.List.{sum_by}
 use Rattle.std.proofs.lemmas.Bool.{cases_eq, cases_lt}
@@ -36,6 +36,10 @@ is_in w end row is = record {
   from = is.from;
   below = (let below = is.below in let ends = is.ends in omega (arith, below, ends));
 }
+
+-- by trunk whether an interface is on the first side
+abbrev pub AreOn : Lab → IfaceId → (ℕ → ℕ) → Type 0
+AreOn lab i on = (t : ℕ) → t < length lab.trunks → on t ≡ is_on (side_of lab t) i
 
 -- what is known of a side of one trunk: m ends, p plugs on it before and q after, f and o whether the plug is on it before and after
 pub record Moved (m p q f o : ℕ) : Type 0 where
@@ -134,14 +138,16 @@ pub record Crossed (row : EndRow) (trunks : ℕ) (cs : List Crossing) (x y : Sum
   pub summed : y.total ≡ sum_by (λ (u : ℕ). u) y.uses.items
   pub gains : y.gains.items ≡ x.gains.items
 
--- what `mark` leaves
-pub record Marked (row : EndRow) (cs : List Crossing) (x y : Sums) : Type 0 where
+-- what marking leaves, where f and o tell by trunk whether the plug is on the first side before and after
+pub record Marked (row : EndRow) (cs : List Crossing) (f o : ℕ → ℕ) (x y : Sums) : Type 0 where
   pub counts : y.counts.items ≡ x.counts.items
   pub uses : y.uses.items ≡ x.uses.items
   pub total : y.total ≡ x.total
   pub one_each : length y.gains.items ≡ length x.gains.items
   pub others : (s : ℕ) → s ≢ row.segment → get_or y.gains.items s no_gains ≡ get_or x.gains.items s no_gains
-  pub own : (t : ℕ) → t < 64 → (IsGain row.ends (get_or x.counts.items (64 * row.segment + t) 0) t (get_or x.gains.items row.segment no_gains)) ⊎ (0 < ups t cs + downs t cs)
+  pub own : (k t : ℕ) → t < 64 → IsGain row.ends k t (get_or x.gains.items row.segment no_gains) → k ≤ row.ends → get_or x.counts.items (64 * row.segment + t) 0 ≤ row.ends
+      → f t ≤ k → get_or x.counts.items (64 * row.segment + t) 0 + f t ≡ k + o t
+      → (get_or x.counts.items (64 * row.segment + t) 0 ≡ k) ⊎ (0 < ups t cs + downs t cs)
       → IsGain row.ends (get_or x.counts.items (64 * row.segment + t) 0) t (get_or y.gains.items row.segment no_gains)
 
 -- the count of the segment is what counting anew gives
@@ -188,21 +194,31 @@ other_counts row trunks cs x y r t after few lt apart = after.others (64 * r + t
 ])
 
 -- what a plug more or less of the segment does, as is marked
-gain_after : (lab : Lab) (w : Wiring) (plugs : List IfaceId) (end : ℕ) (row : EndRow) (to : IfaceId) (cs : List Crossing) (x y z : Sums) (t : ℕ)
-    → Going lab w plugs end row to cs x → Crossed row (length lab.trunks) cs x y → Marked row cs y z → length lab.trunks ≤ 64 → t < length lab.trunks
+gain_after : (lab : Lab) (w : Wiring) (plugs : List IfaceId) (end : ℕ) (row : EndRow) (to : IfaceId) (cs : List Crossing) (f o : ℕ → ℕ) (x y z : Sums) (t : ℕ)
+    → Going lab w plugs end row to cs x → AreOn lab (get_or plugs end (record { 0 = 0 })) f → AreOn lab to o → Crossed row (length lab.trunks) cs x y → Marked row cs f o y z
+    → length lab.trunks ≤ 64 → t < length lab.trunks
     → IsGain row.ends (get_or y.counts.items (64 * row.segment + t) 0) t (get_or z.gains.items row.segment no_gains)
-gain_after lab w plugs end row to cs x y z t g after marked few lt =
+gain_after lab w plugs end row to cs f o x y z t g from_is to_is after marked few lt =
     let s = row.segment in
+    let k = get_or x.counts.items (64 * s + t) 0 in
     let now = get_or y.counts.items (64 * s + t) 0 in
-    marked.own t (omega (arith, lt, few)) (elim (cases_lt 0 (ups t cs + downs t cs)) [
+    let its = trunk_at lab w plugs end row to cs x t g lt in
+    let was = g.summed.counts s t g.of_row.segment lt in
+    let counted = after.counts t lt in
+    let from = from_is t lt in
+    let there = to_is t lt in
+    let moved = its.moved in
+    let crossed = its.crossed in
+    let one = its.one_of in
+    let before = its.before in
+    let behind = its.after in
+    let gain : IsGain row.ends k t (get_or y.gains.items s no_gains) =
+    subst (λ (l : List Gains). IsGain row.ends k t (get_or l s no_gains)) (sym after.gains)
+    (subst (λ (m : ℕ). IsGain m k t (get_or x.gains.items s no_gains)) (sym g.of_row.ends) (g.summed.gains s t g.of_row.segment lt)) in
+    marked.own k t (omega (arith, lt, few)) gain (omega (arith, was, before)) (omega (arith, was, counted, moved, crossed, behind)) (omega (arith, from, was, one)) (omega (arith, from, there, counted, crossed))
+    (elim (cases_lt 0 (ups t cs + downs t cs)) [
       | inl some ↦ inr some
-      | inr none ↦ (
-          let counted = after.counts t lt in
-          let same : ◌≡◌ {A = ℕ} (get_or x.counts.items (64 * s + t) 0) now = omega (arith, counted, none) in
-          let before : IsGain row.ends (get_or x.counts.items (64 * s + t) 0) t (get_or x.gains.items s no_gains) =
-          subst (λ (m : ℕ). IsGain m (get_or x.counts.items (64 * s + t) 0) t (get_or x.gains.items s no_gains)) (sym g.of_row.ends) (g.summed.gains s t g.of_row.segment lt) in
-          inl (subst (λ (l : List Gains). IsGain row.ends now t (get_or l s no_gains)) (sym after.gains)
-          (subst (λ (k : ℕ). IsGain row.ends k t (get_or x.gains.items s no_gains)) same before)))
+      | inr none ↦ inl (omega (arith, counted, none))
     ])
 
 -- THE SUMS ARE AGAIN WHAT COUNTING ANEW GIVES
@@ -219,16 +235,17 @@ counts_after lab w plugs end row to cs x y r t g after few r_lt lt =
           ∙ sym (ap (λ (l : List IfaceId). plugs_on (side_of lab t) l) (other_after w.segments plugs s end r to (is_in w end row g.of_row) apart))
     ]
 
-gains_after : (lab : Lab) (w : Wiring) (plugs : List IfaceId) (end : ℕ) (row : EndRow) (to : IfaceId) (cs : List Crossing) (x y z : Sums) (r t : ℕ)
-    → Going lab w plugs end row to cs x → Crossed row (length lab.trunks) cs x y → Marked row cs y z → length lab.trunks ≤ 64 → r < length w.segments → t < length lab.trunks
+gains_after : (lab : Lab) (w : Wiring) (plugs : List IfaceId) (end : ℕ) (row : EndRow) (to : IfaceId) (cs : List Crossing) (f o : ℕ → ℕ) (x y z : Sums) (r t : ℕ)
+    → Going lab w plugs end row to cs x → AreOn lab (get_or plugs end (record { 0 = 0 })) f → AreOn lab to o → Crossed row (length lab.trunks) cs x y → Marked row cs f o y z
+    → length lab.trunks ≤ 64 → r < length w.segments → t < length lab.trunks
     → IsGain (length (get_or w.segments r no_segment).ends) (get_or y.counts.items (64 * r + t) 0) t (get_or z.gains.items r no_gains)
-gains_after lab w plugs end row to cs x y z r t g after marked few r_lt lt =
+gains_after lab w plugs end row to cs f o x y z r t g from_is to_is after marked few r_lt lt =
     let s = row.segment in
     elim (cases_eq r s) [
       | inl same ↦
           subst (λ (k : ℕ). IsGain (length (get_or w.segments k no_segment).ends) (get_or y.counts.items (64 * k + t) 0) t (get_or z.gains.items k no_gains)) (sym same)
           (subst (λ (m : ℕ). IsGain m (get_or y.counts.items (64 * s + t) 0) t (get_or z.gains.items s no_gains)) g.of_row.ends
-          (gain_after lab w plugs end row to cs x y z t g after marked few lt))
+          (gain_after lab w plugs end row to cs f o x y z t g from_is to_is after marked few lt))
       | inr apart ↦ (
           let m = length (get_or w.segments r no_segment).ends in
           let its : get_or z.gains.items r no_gains ≡ get_or x.gains.items r no_gains = marked.others r apart ∙ ap (λ (l : List Gains). get_or l r no_gains) after.gains in
@@ -237,9 +254,10 @@ gains_after lab w plugs end row to cs x y z r t g after marked few r_lt lt =
           (subst (λ (k : ℕ). IsGain m k t (get_or x.gains.items r no_gains)) (sym count) (g.summed.gains r t r_lt lt)))
     ]
 
-pub summed_after : (lab : Lab) (w : Wiring) (plugs : List IfaceId) (end : ℕ) (row : EndRow) (to : IfaceId) (cs : List Crossing) (x y z : Sums)
-    → Going lab w plugs end row to cs x → Crossed row (length lab.trunks) cs x y → Marked row cs y z → length lab.trunks ≤ 64 → IsSummed lab w (set plugs end to) z
-summed_after lab w plugs end row to cs x y z g after marked few =
+pub summed_after : (lab : Lab) (w : Wiring) (plugs : List IfaceId) (end : ℕ) (row : EndRow) (to : IfaceId) (cs : List Crossing) (f o : ℕ → ℕ) (x y z : Sums)
+    → Going lab w plugs end row to cs x → AreOn lab (get_or plugs end (record { 0 = 0 })) f → AreOn lab to o → Crossed row (length lab.trunks) cs x y → Marked row cs f o y z
+    → length lab.trunks ≤ 64 → IsSummed lab w (set plugs end to) z
+summed_after lab w plugs end row to cs f o x y z g from_is to_is after marked few =
     let new = set plugs end to in
     record {
       room = ap (λ (l : List ℕ). length l) marked.counts ∙ after.room ∙ g.summed.room;
@@ -249,5 +267,33 @@ summed_after lab w plugs end row to cs x y z g after marked few =
       total = marked.total ∙ after.summed ∙ ap (λ (l : List ℕ). sum_by (λ (u : ℕ). u) l) (sym marked.uses);
       gained = marked.one_each ∙ ap (λ (l : List Gains). length l) after.gains ∙ g.summed.gained;
       gains = λ r t r_lt lt. subst (λ (l : List ℕ). IsGain (length (get_or w.segments r no_segment).ends) (get_or l (64 * r + t) 0) t (get_or z.gains.items r no_gains)) (sym marked.counts)
-          (gains_after lab w plugs end row to cs x y z r t g after marked few r_lt lt);
+          (gains_after lab w plugs end row to cs f o x y z r t g from_is to_is after marked few r_lt lt);
     }
+
+-- a plug that crosses no trunk leaves them
+pub summed_stays : (lab : Lab) (w : Wiring) (plugs : List IfaceId) (end : ℕ) (row : EndRow) (to : IfaceId) (x : Sums)
+    → Going lab w plugs end row to [] x → length lab.trunks ≤ 64 → IsSummed lab w (set plugs end to) x
+summed_stays lab w plugs end row to x g few =
+    let f : ℕ → ℕ = λ t. is_on (side_of lab t) (get_or plugs end (record { 0 = 0 })) in
+    let o : ℕ → ℕ = λ t. is_on (side_of lab t) to in
+    let crossed : Crossed row (length lab.trunks) [] x x = record {
+      room = refl;
+      one_each = refl;
+      counts = λ t lt. refl;
+      others = λ k far. refl;
+      uses = λ t lt. refl;
+      summed = g.summed.total;
+      gains = refl;
+    } in
+    let marked : Marked row [] f o x x = record {
+      counts = refl;
+      uses = refl;
+      total = refl;
+      one_each = refl;
+      others = λ s apart. refl;
+      own = λ k t lt known k_le on_le from_le moved some. elim some [
+        | inl same ↦ subst (λ (n : ℕ). IsGain row.ends n t (get_or x.gains.items row.segment no_gains)) (sym same) known
+        | inr none ↦ absurd (omega (arith, none))
+      ];
+    } in
+    summed_after lab w plugs end row to [] f o x x x g (λ t lt. refl) (λ t lt. refl) crossed marked few

@@ -1,5 +1,5 @@
 // One plug more or less on a side of a trunk, and the ends that count of its segment.
-ghost use Rattle.std.specs.Prelude.{◌≡◌, ◌≢◌, ◌<◌, ◌≤◌, ◌⊎◌, ◌+◌, ◌*◌, ℕ, min, max, length, slice_index_or, All, bit_xor, count_ones, if◌then◌else◌};
+ghost use Rattle.std.specs.Prelude.{◌≡◌, ◌≢◌, ◌<◌, ◌≤◌, ◌⊎◌, ◌+◌, ◌*◌, ℕ, min, max, length, slice_index_or, All, bit_xor, count_ones, IsTrue, if◌then◌else◌};
 ghost use Rattle.std.specs.Int.{bit_at};
 ghost use Rattle.trunk_sums.specs.Counts.{lesser};
 ghost use Rattle.trunk_sums.specs.Crossed.{ups, downs};
@@ -49,6 +49,14 @@ pub(crate) fn kbps_of(word: u64, kbps: u64) -> u64
     u64::from(word.count_ones()) * kbps
 }
 
+/// Whether a segment is a link, of which a plug crosses more than one trunk.
+#[inline(always)]
+fn is_far_link(row: EndRow, crossed: &[Crossing]) -> bool
+    ensures { IsTrue result → row.ends ≡ 2 }
+{
+    row.ends == 2 && crossed.len() > 1
+}
+
 impl Gains {
     /// No plug does anything.
     pub(crate) fn none() -> Gains {
@@ -80,6 +88,28 @@ impl Gains {
         to & apart & self.onto_takes | from & apart & self.off_takes
     }
 
+    /// What a plug more or less of a link does, once one of its two plugs went from some first sides to others. By trunk one of three words has a bit: that
+    /// of the trunks with none of the plugs on the first side, of those with one, or of those with both.
+    #[inline(always)]
+    pub(crate) fn of_link(&self, from: u64, to: u64) -> Gains
+        ensures { (k on t : ℕ) → IsGain 2 k t self.now → k ≤ 2 → on ≤ 2 → bit_at from t ≤ k → on + bit_at from t ≡ k + bit_at to t → IsGain 2 on t result }
+    {
+        let apart = from ^ to;
+        let onto = to & apart;
+        let off = from & apart;
+        let none = self.onto_adds ^ (self.onto_adds & apart) | self.onto_takes & off;
+        let one = self.onto_takes ^ (self.onto_takes & apart)
+            | self.onto_adds & onto
+            | self.off_adds & off;
+        let both = self.off_adds ^ (self.off_adds & apart) | self.onto_takes & onto;
+        Gains {
+            onto_adds: none,
+            onto_takes: one,
+            off_adds: both,
+            off_takes: one,
+        }
+    }
+
     /// Marks a trunk that has so many of a segment's plugs on its first side.
     #[inline(always)]
     pub(crate) fn mark(&mut self, trunk: u16, ends: u16, on: u16)
@@ -99,7 +129,7 @@ impl Gains {
 
 impl Sums {
     /// Marks the trunks that a plug of a segment crossed, by the counts as they are now.
-    pub(crate) fn mark(&mut self, row: EndRow, crossed: &[Crossing])
+    fn mark(&mut self, row: EndRow, crossed: &[Crossing])
         requires room { MAX_TRUNKS * row.segment + MAX_TRUNKS ≤ length self.old.counts.items }
         requires row { row.segment < length self.old.gains.items }
         requires within { All (λ c. c.trunk < MAX_TRUNKS) crossed.now }
@@ -118,5 +148,30 @@ impl Sums {
             gains.mark(crossing.trunk, row.ends, self.counts[place]);
         }
         self.gains[row.segment as usize] = gains;
+    }
+
+    /// Marks the trunks of a segment once one of its plugs went from some first sides to others and crossed these, by the counts as they are now. Where
+    /// they are more than one of a link, they are marked together.
+    #[inline(always)]
+    pub(crate) fn mark_moved(&mut self, row: EndRow, crossed: &[Crossing], from: u64, to: u64)
+        requires room { MAX_TRUNKS * row.segment + MAX_TRUNKS ≤ length self.old.counts.items }
+        requires row { row.segment < length self.old.gains.items }
+        requires within { All (λ c. c.trunk < MAX_TRUNKS) crossed.now }
+        ensures counts { self.new.counts.items ≡ self.old.counts.items }
+        ensures uses { self.new.uses.items ≡ self.old.uses.items }
+        ensures total { self.new.total ≡ self.old.total }
+        ensures one_each { length self.new.gains.items ≡ length self.old.gains.items }
+        ensures others { (s : ℕ) → s ≢ row.segment → slice_index_or self.new.gains.items s no_gains ≡ slice_index_or self.old.gains.items s no_gains }
+        ensures own { (k t : ℕ) → t < MAX_TRUNKS → IsGain row.ends k t (gains_of self.old row) → k ≤ row.ends → on_first self.old row t ≤ row.ends
+            → bit_at from t ≤ k → on_first self.old row t + bit_at from t ≡ k + bit_at to t
+            → (on_first self.old row t ≡ k) ⊎ (0 < ups t crossed.now + downs t crossed.now)
+            → IsGain row.ends (on_first self.old row t) t (gains_of self.new row) }
+    {
+        if is_far_link(row, crossed) {
+            let gains = self.gains[row.segment as usize];
+            self.gains[row.segment as usize] = gains.of_link(from, to);
+            return;
+        }
+        self.mark(row, crossed);
     }
 }

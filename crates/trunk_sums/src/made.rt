@@ -63,16 +63,7 @@ impl Sums {
         ensures summed { IsSummed lab.now wiring.now plugs.new.items self.new }
     {
         for change in changes {
-            let crossed = table.between(lab, plugs[change.end as usize], change.to);
-            self.replug(
-                lab,
-                wiring,
-                plugs,
-                change.end as usize,
-                change.row,
-                change.to,
-                crossed,
-            );
+            self.replug(lab, wiring, table, plugs, *change);
         }
     }
 }

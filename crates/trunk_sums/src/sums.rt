@@ -1,10 +1,12 @@
 // Running sums over trunks.
-ghost use Rattle.std.specs.Prelude.{◌≡◌, ◌<◌, ◌≤◌, ◌+◌, ◌*◌, ◌-◌, ◌⊎◌, ◌^◌, ℕ, true, false, length, slice_index_or, slice_set, All, sum_by};
+ghost use Rattle.std.specs.Prelude.{◌≡◌, ◌<◌, ◌≤◌, ◌+◌, ◌*◌, ◌-◌, ◌⊎◌, ◌^◌, ℕ, true, false, length, slice_index_or, slice_set, All, IsTrue, sum_by};
 ghost use Rattle.trunk_sums.specs.Counts.{share, after};
 ghost use Rattle.trunk_sums.specs.Crossed.{ups, downs};
 
 use crate::crossing::Crossing;
 use crate::gains::{Gains, lesser};
+use crate::made::Change;
+use crate::table::Crossings;
 use lab_base::IfaceId;
 use phys_lab::{Lab, MAX_TRUNKS};
 use virt_topo::{MAX_ENDS, MAX_KBPS, MAX_SEGMENT_ENDS, Wiring};
@@ -38,6 +40,14 @@ pub(crate) fn share_of(ends: u16, on: u16, kbps: u64) -> u64
     ensures small { result ≤ MAX_SEGMENT_ENDS * MAX_KBPS }
 {
     u64::from(lesser(ends, on)) * kbps
+}
+
+/// Whether a plug crosses no trunk.
+#[inline(always)]
+fn crosses_none(crossed: &[Crossing]) -> bool
+    ensures { IsTrue result → length crossed.now ≡ 0 }
+{
+    crossed.is_empty()
 }
 
 impl Sums {
@@ -111,34 +121,42 @@ impl Sums {
 
     ghost use Rattle.virt_topo.specs.Soundness.{keeps_limits};
     ghost use Rattle.virt_topo.specs.Ends.{end_nodes};
-    ghost use Rattle.trunk_sums.specs.Crossed.{AreCrossed};
+    ghost use Rattle.trunk_sums.specs.Between.{IsTable};
     ghost use Rattle.trunk_sums.specs.Summed.{IsRow, IsSummed};
 
     /// Takes an end to another plug. The sums are then those of counting anew. Taking it back is a call with the plugs exchanged.
-    pub fn replug(
+    pub(crate) fn replug(
         &mut self,
         lab: &Lab,
         wiring: &Wiring,
+        table: &Crossings,
         plugs: &mut Vec<IfaceId>,
-        end: usize,
-        row: EndRow,
-        to: IfaceId,
-        crossed: &[Crossing],
+        change: Change,
     )
         requires limits { keeps_limits wiring.now ≡ true }
         requires plugged { length plugs.old.items ≡ length (end_nodes wiring.now.segments) }
-        requires row { IsRow wiring.now end row }
-        requires crossed { AreCrossed lab.now (slice_index_or plugs.old.items end (record { 0 = 0 })) to crossed.now }
+        requires in_lab { All (λ i. i.0 < length lab.now.ifaces) plugs.old.items }
+        requires table { IsTable lab.now table.now }
+        requires row { IsRow wiring.now change.end change.row }
+        requires to { change.to.0 < length lab.now.ifaces }
         requires summed { IsSummed lab.now wiring.now plugs.old.items self.old }
-        ensures plugs { plugs.new.items ≡ slice_set plugs.old.items end to }
+        ensures plugs { plugs.new.items ≡ slice_set plugs.old.items change.end change.to }
         ensures summed { IsSummed lab.now wiring.now plugs.new.items self.new }
     {
         // for the prover: it tells what every lab keeps
         let _kept = lab.range();
         // for the prover: it tells that the number of segments fits
         let _count = wiring.segments.len();
-        self.cross(row, crossed);
-        self.mark(row, crossed);
-        plugs[end] = to;
+        let plug = plugs[change.end as usize];
+        let crossed = table.between(lab, plug, change.to);
+        if crosses_none(crossed) {
+            plugs[change.end as usize] = change.to;
+            return;
+        }
+        let from = table.sides(lab, plug);
+        let to = table.sides(lab, change.to);
+        self.cross(change.row, crossed);
+        self.mark_moved(change.row, crossed, from, to);
+        plugs[change.end as usize] = change.to;
     }
 }

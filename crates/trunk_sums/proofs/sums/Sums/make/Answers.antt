@@ -1,40 +1,16 @@
 use Rattle.std.proofs.Common.{◌≡◌, ◌<◌, ◌∙◌, List, length, get_or, All, ap, sym, subst, arith}
 use Rattle.std.proofs.Math.ListN.{set}
-use Rattle.std.proofs.lemmas.List.{length-set, get_or_read}
+use Rattle.std.proofs.lemmas.List.{length-set}
 use Rattle.lab_base.specs.declared.ids.IfaceId.{IfaceId}
 use Rattle.trunk_sums.specs.declared.made.Change.{Change}
-use Rattle.trunk_sums.specs.Crossed.{AreCrossed}
-use Rattle.trunk_sums.proofs.Replugged.{in_ends}
-use Rattle.trunk_sums.proofs.SummedLaws.{is_in}
 use Rattle.trunk_sums.proofs.RemadeLaws.{remade_more, all_set}
 use Rattle.trunk_sums.proofs.sums.Sums.make.Goals as goal
 
-pub index-requires : goal.index-requires
-index-requires c =
-    let w = c.args.wiring.now in
-    let x : Change = get_or c.args.changes.now c.loop-change.change-index (record { end = 0; row = record { segment = 0; ends = 0; kbps = 0 }; to = record { 0 = 0 } }) in
-    let row = c.requires.changes.rows c.loop-change.change-index (record { end = 0; row = record { segment = 0; ends = 0; kbps = 0 }; to = record { 0 = 0 } }) c.loop-change-test.true in
-    let in_all = in_ends w.segments x.row.segment x.end (is_in w x.end x.row row) in
-    omega (arith, in_all, c.requires.plugged, c.loop-change.invariant.plugged)
+pub replug-requires-clause-row : goal.replug-requires-clause-row
+replug-requires-clause-row c = c.requires.changes.rows c.loop-change.change-index (record { end = 0; row = record { segment = 0; ends = 0; kbps = 0 }; to = record { 0 = 0 } }) c.loop-change-test.true
 
-pub between-crossed-requires-clause-from : goal.between-crossed-requires-clause-from
-between-crossed-requires-clause-from c =
-    let w = c.args.wiring.now in
-    let x : Change = get_or c.args.changes.now c.loop-change.change-index (record { end = 0; row = record { segment = 0; ends = 0; kbps = 0 }; to = record { 0 = 0 } }) in
-    let row = c.requires.changes.rows c.loop-change.change-index (record { end = 0; row = record { segment = 0; ends = 0; kbps = 0 }; to = record { 0 = 0 } }) c.loop-change-test.true in
-    let in_all = in_ends w.segments x.row.segment x.end (is_in w x.end x.row row) in
-    let there : x.end < length c.loop-change.plugs.items = omega (arith, in_all, c.requires.plugged, c.loop-change.invariant.plugged) in
-    subst (λ (i : IfaceId). i.0 < length c.args.lab.now.ifaces) (sym c.index.ensures) (c.loop-change.invariant.in_lab x.end c.index.result.now there)
-
-pub replug-requires-clause-crossed : goal.replug-requires-clause-crossed
-replug-requires-clause-crossed c =
-    let w = c.args.wiring.now in
-    let x : Change = get_or c.args.changes.now c.loop-change.change-index (record { end = 0; row = record { segment = 0; ends = 0; kbps = 0 }; to = record { 0 = 0 } }) in
-    let row = c.requires.changes.rows c.loop-change.change-index (record { end = 0; row = record { segment = 0; ends = 0; kbps = 0 }; to = record { 0 = 0 } }) c.loop-change-test.true in
-    let in_all = in_ends w.segments x.row.segment x.end (is_in w x.end x.row row) in
-    let there : x.end < length c.loop-change.plugs.items = omega (arith, in_all, c.requires.plugged, c.loop-change.invariant.plugged) in
-    subst (λ (i : IfaceId). AreCrossed c.args.lab.now i x.to c.between-crossed.result.now)
-    (get_or_read c.loop-change.plugs.items x.end c.index.result.now there c.index.ensures (record { 0 = 0 })) c.between-crossed.ensures
+pub replug-requires-clause-to : goal.replug-requires-clause-to
+replug-requires-clause-to c = c.requires.changes.within c.loop-change.change-index (record { end = 0; row = record { segment = 0; ends = 0; kbps = 0 }; to = record { 0 = 0 } }) c.loop-change-test.true
 
 pub loop-change-preserved : goal.loop-change-preserved
 loop-change-preserved c =
