@@ -1,5 +1,5 @@
 // Judging a command.
-ghost use Rattle.std.specs.Prelude.{◌≡◌, ◌<◌, ◌≤◌, None, IfOk, Result, false, length, true};
+ghost use Rattle.std.specs.Prelude.{◌≡◌, ◌<◌, ◌≤◌, None, IfOk, false, length, true};
 ghost use Rattle.lab_base.specs.declared.fault.TextRefused.TheVariants as refusals;
 ghost use Rattle.script_text.specs.Drills.{drill_of};
 ghost use Rattle.script_text.specs.declared.reply.Reply.TheVariants as replies;

@@ -1,5 +1,5 @@
 -- The judgement of a mapping that is given: a swap to it, or the first refusal.
-use Rattle.std.specs.Prelude.{◌+◌, ℕ, Bool, true, List, length, map, Result, Ok}
+use Rattle.std.specs.Prelude.{◌+◌, ℕ, Bool, true, List, length, Result, Ok}
 use Rattle.lab_base.specs.declared.fault.TextFault.{TextFault}
 use Rattle.phys_lab.specs.Labs.{Lab}
 use Rattle.virt_topo.specs.declared.mapping.Mapping.{Mapping}
