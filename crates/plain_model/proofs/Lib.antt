@@ -1,10 +1,12 @@
 mod CabledLaws
 mod HoldsLaws
 mod IsolationLaws
+mod Isolations
 mod Neighbours
 mod NodeLaws
 mod RowLaws
 mod Rows
+mod Samples
 mod SeenLaws
 mod Sides
-mod WantLaws
+mod Worlds

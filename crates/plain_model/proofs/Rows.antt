@@ -8,11 +8,13 @@ use Rattle.plant.specs.Events.{Event, Did}
 use Rattle.plant.specs.Worlds.{world_of}
 
 -- whether port 1 of s1 is in VLAN 100 after these steps
-stands : List Event → Bool
+abbrev stands : List Event → Bool
 stands trace = (world_of trace).rows (record { switch = codes "s1"; port = 1; vlan = 100 })
 
-join leave : ℕ → Bool → Event
+abbrev join : ℕ → Bool → Event
 join port applied = Did (Join (codes "s1") port (record { 0 = 100 })) applied (Ok Done)
+
+abbrev leave : ℕ → Bool → Event
 leave port applied = Did (Leave (codes "s1") port (record { 0 = 100 })) applied (Ok Done)
 
 nothing : stands [] ≡ false

@@ -1,6 +1,7 @@
 -- What two sides of a journal are read as, by values.
-use Rattle.std.specs.Prelude.{◌≡◌, ◌<◌, ◌≤◌, ℕ, List, [], ◌∷◌, ◌++◌, length, codes}
-use Rattle.std.proofs.Common.{refl, arith, cc}
+use Rattle.std.specs.Prelude.{◌≡◌, ℕ, List, [], ◌∷◌, ◌++◌, codes}
+use Rattle.std.proofs.Common.{refl}
+use Rattle.std.proofs.lemmas.Bool.{ltb-true, leb-true}
 use Rattle.plant.specs.declared.step.Side.TheVariants.{A, B}
 use Rattle.journal_rec.specs.declared.record.Record.{Record}
 use Rattle.journal_rec.specs.declared.record.Record.TheVariants.{Delete}
@@ -8,23 +9,23 @@ use Rattle.journal_rec.specs.Payloads.{IsRecord, le}
 use Rattle.journal_model.specs.Journals.{head, live, New, On, Wrong, Records, Bad, cut_off}
 
 -- a header of that epoch with that name, and the record Delete of A with that gate behind it
-named : List ℕ → ℕ → List ℕ → List ℕ
+abbrev named : List ℕ → ℕ → List ℕ → List ℕ
 named name epoch rest = 165 ∷ name ++ le 8 epoch ++ rest
 
-side : ℕ → List ℕ → List ℕ
+abbrev side : ℕ → List ℕ → List ℕ
 side = named (codes "LABJRNL1")
 
-delete : ℕ → List ℕ
+abbrev delete : ℕ → List ℕ
 delete gate = 165 ∷ 3 ∷ 0 ∷ 0 ∷ 0 ∷ 3 ∷ 1 ∷ 65 ∷ gate ∷ []
 
-cut : List ℕ
+abbrev cut : List ℕ
 cut = 165 ∷ 3 ∷ 0 ∷ 0 ∷ 0 ∷ 3 ∷ 1 ∷ 65 ∷ []
 
-record_a : Record
+abbrev record_a : Record
 record_a = Delete (codes "A")
 
 is_record : IsRecord record_a
-is_record = record { fields = refl; size = arith }
+is_record = record { fields = refl; size = ltb-true _ _ refl }
 
 -- blank sides, and headers whose gate was not yet written behind them
 no_bytes : live (head []) (head []) ≡ New
@@ -74,12 +75,12 @@ one_record = (0 ∷ [], is_record, refl, (0, [], refl, λ e. cc e))
 no_record_yet : Records (side 1 (0 ∷ [])) [] []
 no_record_yet = (0, [], refl, λ e. cc e)
 
-other_gate : Records [] (side 1 (delete 164)) (record_a ∷ [])
-other_gate = (164 ∷ [], is_record, refl, (164, [], refl, λ e. cc e))
+other_gate : Records [] (side 1 (delete 1)) (record_a ∷ [])
+other_gate = (1 ∷ [], is_record, refl, (1, [], refl, λ e. cc e))
 
 -- an open gate without a record behind it, behind one record and behind none
 open_behind : Bad (side 1 (delete 165 ++ 1 ∷ 0 ∷ 0 ∷ 0 ∷ [])) [] A 25
-open_behind = (refl, (record_a ∷ [], (165 ∷ 1 ∷ 0 ∷ 0 ∷ 0 ∷ [], is_record, refl, (1 ∷ 0 ∷ 0 ∷ 0 ∷ [], refl, cut_off arith arith)), refl))
+open_behind = (refl, (record_a ∷ [], (165 ∷ 1 ∷ 0 ∷ 0 ∷ 0 ∷ [], is_record, refl, (1 ∷ 0 ∷ 0 ∷ 0 ∷ [], refl, cut_off (leb-true _ _ refl) (ltb-true _ _ refl))), refl))
 
 cut_short : Bad (side 1 (delete 0)) (side 2 cut) B 17
-cut_short = (refl, ([], (3 ∷ 0 ∷ 0 ∷ 0 ∷ 3 ∷ 1 ∷ 65 ∷ [], refl, cut_off arith arith), refl))
+cut_short = (refl, ([], (3 ∷ 0 ∷ 0 ∷ 0 ∷ 3 ∷ 1 ∷ 65 ∷ [], refl, cut_off (leb-true _ _ refl) (ltb-true _ _ refl)), refl))
