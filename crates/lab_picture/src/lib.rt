@@ -3,6 +3,7 @@
 #![tactic(auto)]
 
 mod bars;
+mod drawing;
 mod frame;
 mod geometry;
 mod lists;

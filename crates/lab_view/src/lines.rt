@@ -22,30 +22,33 @@ fn held_word(held: Held) -> &'static str
     }
 }
 
-fn push_exp(text: &mut Text, view: &View, exp: usize) -> Result<(), Memory>
-    ensures { OnOk result (text.new ≡ text.old ++ exp_name view.now exp) }
+/// The name of an experiment, none of a number that names nothing.
+pub fn exp_name(view: &View, exp: usize) -> &[u8]
+    ensures { result.now ≡ exp_name view.now exp }
 {
     match view.experiments.as_slice().get(exp) {
-        Some(own) => text.push_bytes(own.name.bytes()),
-        None => Ok(()),
+        Some(own) => own.name.bytes(),
+        None => &[],
     }
 }
 
-fn push_switch_name(text: &mut Text, view: &View, switch: usize) -> Result<(), Memory>
-    ensures { OnOk result (text.new ≡ text.old ++ switch_name view.now switch) }
+/// The name of a switch, none of a number that names nothing.
+pub fn switch_name(view: &View, switch: usize) -> &[u8]
+    ensures { result.now ≡ switch_name view.now switch }
 {
     match view.switches.as_slice().get(switch) {
-        Some(name) => text.push_bytes(name.bytes()),
-        None => Ok(()),
+        Some(name) => name.bytes(),
+        None => &[],
     }
 }
 
-fn push_guests(text: &mut Text, guests: &[Name]) -> Result<(), Memory>
-    ensures { OnOk result (text.new ≡ text.old ++ flat_map spaced guests.now) }
+/// A blank before each name.
+pub fn push_spaced(text: &mut Text, names: &[Name]) -> Result<(), Memory>
+    ensures { OnOk result (text.new ≡ text.old ++ flat_map spaced names.now) }
 {
-    for guest in guests {
+    for name in names {
         text.push(b' ')?;
-        text.push_bytes(guest.bytes())?;
+        text.push_bytes(name.bytes())?;
     }
     Ok(())
 }
@@ -57,8 +60,8 @@ fn push_seat(text: &mut Text, view: &View, seat: &Option<Seat>) -> Result<(), Me
         None => text.push_bytes(b" free"),
         Some(seat) => {
             text.push_bytes(held_word(seat.held).as_bytes())?;
-            push_exp(text, view, seat.exp)?;
-            push_guests(text, seat.guests.as_slice())
+            text.push_bytes(exp_name(view, seat.exp))?;
+            push_spaced(text, seat.guests.as_slice())
         }
     }
 }
@@ -97,7 +100,7 @@ fn push_switch(text: &mut Text, view: &View, switch: usize) -> Result<(), Memory
     ensures { OnOk result (text.new ≡ text.old ++ switch_lines view.now switch) }
 {
     text.push_bytes(b"switch ")?;
-    push_switch_name(text, view, switch)?;
+    text.push_bytes(switch_name(view, switch))?;
     text.push(b' ')?;
     text.push_number(free_under(view, switch) as u64)?;
     text.push_bytes(b" of ")?;
@@ -173,7 +176,7 @@ fn push_end(text: &mut Text, view: &View, switch: usize) -> Result<(), Memory>
     ensures { OnOk result (text.new ≡ text.old ++ 32 ∷ [] ++ switch_name view.now switch) }
 {
     text.push(b' ')?;
-    push_switch_name(text, view, switch)
+    text.push_bytes(switch_name(view, switch))
 }
 
 /// The kbps that nobody claims of a trunk.
