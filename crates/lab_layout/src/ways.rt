@@ -35,10 +35,7 @@ fn bent(from: (Px, Px), lane: Px, to: (Px, Px)) -> Way {
         start
     };
     Way {
-        from: Point {
-            x: x.small(),
-            y: y.small(),
-        },
+        from: point(x, y),
         bend: if y == below {
             None
         } else {
@@ -121,6 +118,14 @@ pub(crate) fn line_of(trunk: &Trunk, way: Way) -> Line {
     Line {
         way,
         wide: wide_of(trunk.kbps).small(),
+    }
+}
+
+/// A point at measures from the left and from above.
+pub(crate) fn point(x: Px, y: Px) -> Point {
+    Point {
+        x: x.small(),
+        y: y.small(),
     }
 }
 
