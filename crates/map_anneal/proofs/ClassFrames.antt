@@ -55,7 +55,7 @@ typed_frame w a b m n x y four n_all m_typed x_typed y_typed u lt = by (virt_at 
   where
     by : (asks : Asks) → (virt_at w u).asks ≡ asks → has_class_type w n u ≡ true
     by (Plain t) is = ap (λ (q : Asks). is_of_one_type w (record { places = n; plugs = [] }) q (get_or n u no_place).1) is
-    by (InClass c) is = ap (λ (q : Asks). is_of_one_type w (record { places = n; plugs = [] }) q (get_or n u no_place).1) is ∙ weighed (nat_lt (class_at w c).weight 1000) refl
+    by (InClass c) is = ap (λ (q : Asks). is_of_one_type w (record { places = n; plugs = [] }) q (get_or n u no_place).1) is ∙ ruled_out (nat_lt (class_at w c).weight 1000) refl
       where
         f : FirstMember c w.nodes
         f = first_member c w.nodes u lt (ap (is_member c) is ∙ itself c)
@@ -100,8 +100,8 @@ typed_frame w a b m n x y four n_all m_typed x_typed y_typed u lt = by (virt_at 
               ]
             ]
 
-        weighed : (t : Bool) → nat_lt (class_at w c).weight 1000 ≡ t → (nat_lt (class_at w c).weight 1000 || same_name (first_type c w.nodes n) (type_at n u)) ≡ true
-        weighed true light = ap (λ (t : Bool). t || same_name (first_type c w.nodes n) (type_at n u)) light
-        weighed false heavy =
+        ruled_out : (t : Bool) → nat_lt (class_at w c).weight 1000 ≡ t → (nat_lt (class_at w c).weight 1000 || same_name (first_type c w.nodes n) (type_at n u)) ≡ true
+        ruled_out true light = ap (λ (t : Bool). t || same_name (first_type c w.nodes n) (type_at n u)) light
+        ruled_out false heavy =
             ap (λ (t : Bool). t || same_name (first_type c w.nodes n) (type_at n u)) heavy
             ∙ so_same _ _ (f.is n n_all ∙ heavy_so heavy)

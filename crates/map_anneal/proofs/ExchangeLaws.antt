@@ -20,7 +20,7 @@ use Rattle.map_state.specs.Hosted.{placed_at, asked_soft}
 use Rattle.map_state.proofs.Alikes.{alike_exchanged}
 use Rattle.map_state.proofs.Choices.{choice_exchanged}
 use Rattle.map_state.proofs.HostingLaws.{soft_after}
-use Rattle.map_anneal.specs.Weighed.{swapped}
+use Rattle.map_anneal.specs.RuledOut.{swapped}
 use Rattle.map_anneal.proofs.Frames.{IsOff, AlikeOn, end_place, AreClassesAlike}
 use Rattle.map_anneal.proofs.MoveReads.{ExchangeAlike}
 use Rattle.map_anneal.proofs.PriceFrames.{node_softs_add}

@@ -13,7 +13,7 @@ use Rattle.node_maps.proofs.MapLaws.{mapped_is, choice_within}
 use Rattle.node_maps.proofs.Shaped.{shaped}
 use Rattle.trunk_sums.proofs.Replugged.{in_ends}
 use Rattle.map_anneal.specs.Sought.{Sought, choices, candidates_at, NoExchange}
-use Rattle.map_anneal.specs.Weighed.{ArePairs, IsExchangeNoLess, IsPairs, swapped}
+use Rattle.map_anneal.specs.RuledOut.{ArePairs, IsExchangeNoLess, IsPairs, swapped}
 use Rattle.map_anneal.specs.Steps.{AreStill, IsAside, KeepsTypes}
 use Rattle.map_anneal.specs.Untouched.{IsTouched}
 use Rattle.map_anneal.specs.declared.known.Touched.{Touched}

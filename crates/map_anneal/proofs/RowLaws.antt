@@ -18,7 +18,7 @@ use Rattle.map_state.proofs.StateLaws.{shaped_at}
 use Rattle.map_state.proofs.FullLaws.{overfull}
 use Rattle.map_state.proofs.HostingLaws.{guest_more}
 use Rattle.map_anneal.specs.Sought.{Sought, candidates_at, mapped, price, IsNodeMap, IsNoCheaper}
-use Rattle.map_anneal.specs.Weighed.{IsNoLess, IsRow}
+use Rattle.map_anneal.specs.RuledOut.{IsNoLess, IsRow}
 use Rattle.map_anneal.specs.Steps.{KeepsTypes, IsStep}
 use Rattle.map_anneal.proofs.StepLaws.{no_less_beside}
 

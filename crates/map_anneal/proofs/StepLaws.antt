@@ -18,7 +18,7 @@ use Rattle.node_maps.proofs.Shaped.{shaped}
 use Rattle.trunk_sums.proofs.Replugged.{IsIn, in_ends}
 use Rattle.map_state.specs.Nodes.{no_end}
 use Rattle.map_anneal.specs.Sought.{Sought, candidates_at, price, IsNodeMap}
-use Rattle.map_anneal.specs.Weighed.{IsNoLess}
+use Rattle.map_anneal.specs.RuledOut.{IsNoLess}
 use Rattle.map_anneal.specs.Steps.{AreStill, IsAside, KeepsTypes}
 use Rattle.map_anneal.proofs.Frames.{IsOff}
 use Rattle.map_anneal.proofs.MoveReads.{ReadAlike}

@@ -15,7 +15,7 @@ use Rattle.node_maps.specs.Moved.{has_class_type, KeepsPlaces, may_share}
 use Rattle.node_maps.proofs.Assembled.{parts_of_map}
 use Rattle.node_maps.proofs.MapLaws.{mapped_is}
 use Rattle.map_anneal.specs.Sought.{Sought, candidates_at, mapped, moved, price, IsNoCheaper, NoMove}
-use Rattle.map_anneal.specs.Weighed.{AreRows, IsNoLess, IsRow}
+use Rattle.map_anneal.specs.RuledOut.{AreRows, IsNoLess, IsRow}
 use Rattle.map_anneal.proofs.RowLaws.{no_cheaper}
 use Rattle.map_anneal.proofs.Undone.{mapping_is}
 

@@ -15,7 +15,7 @@ use Rattle.node_maps.proofs.Shaped.{shaped}
 use Rattle.node_maps.proofs.Assembled.{parts_of_map}
 use Rattle.node_maps.proofs.MovedLaws.{shared_all}
 use Rattle.map_anneal.specs.Sought.{sought}
-use Rattle.map_anneal.specs.Weighed.{KeepsButRoom, IsNoLess}
+use Rattle.map_anneal.specs.RuledOut.{KeepsButRoom, IsNoLess}
 use Rattle.map_anneal.proofs.Shares.{OneTry}
 use Rattle.map_anneal.proofs.Frames.{IsFrame, AreClassesAlike}
 use Rattle.map_anneal.proofs.PlugFrames.{follows}

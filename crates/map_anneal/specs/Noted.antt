@@ -2,7 +2,7 @@
 use Rattle.virt_topo.specs.declared.mapping.Mapping.{Mapping}
 use Rattle.map_anneal.specs.declared.known.Known.{Known}
 use Rattle.map_anneal.specs.Sought.{Sought}
-use Rattle.map_anneal.specs.Weighed.{ArePairs, AreRows}
+use Rattle.map_anneal.specs.RuledOut.{ArePairs, AreRows}
 
 -- the notes of moves and of exchanges are so of the map
 pub record IsKnown (s : Sought) (m : Mapping) (x : Known) : Type 0 where

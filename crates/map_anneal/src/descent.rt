@@ -7,7 +7,7 @@ ghost use Rattle.node_maps.specs.NodeMaps.{is_candidate, lab_places};
 ghost use Rattle.map_state.specs.Tables.{IsSearch};
 ghost use Rattle.map_anneal.specs.Sought.{sought, choices, price, IsNodeMap, NoMove, NoExchange, LocallyBest};
 ghost use Rattle.map_anneal.specs.Searches.{sought_of, priced_by, IsTried};
-ghost use Rattle.map_anneal.specs.Weighed.{ArePairs, AreRows, IsExchangeNoLess, IsPairs, IsRow};
+ghost use Rattle.map_anneal.specs.RuledOut.{ArePairs, AreRows, IsExchangeNoLess, IsPairs, IsRow};
 ghost use Rattle.map_anneal.specs.Noted.{IsKnown};
 
 use crate::known::Known;
@@ -50,7 +50,7 @@ fn cheaper_move_of(
         if at.move_if_cheaper(alloc, search, rule, node, number, below)? {
             return Ok(true);
         }
-        row.note(number, at.weighed);
+        row.note(number, at.ruled_out);
         number = row.unknown_from(number + 1);
     }
     Ok(false)
@@ -128,12 +128,12 @@ fn cheaper_exchange(
     ensures same { IfOk result (λ yes. yes ≡ false → at.new.state.mapping ≡ at.old.state.mapping) }
     ensures same_cost { IfOk result (λ yes. yes ≡ false → at.new.cost ≡ at.old.cost) }
     ensures none { IfOk result (λ yes. yes ≡ false → NoExchange (sought_of search.now rule.now.number) at.old.state.mapping first second) }
-    ensures weighed { IfOk result (λ yes. yes ≡ false → at.new.weighed ≡ true
+    ensures ruled_out { IfOk result (λ yes. yes ≡ false → at.new.ruled_out ≡ true
         → IsExchangeNoLess (sought_of search.now rule.now.number) at.old.state.mapping first second) }
 {
     let one = place_of(at.state.mapping.places.as_slice(), first);
     let other = place_of(at.state.mapping.places.as_slice(), second);
-    at.weighed = true;
+    at.ruled_out = true;
     if !may_have(search, first, other) {
         return Ok(false);
     }
@@ -171,7 +171,7 @@ fn cheaper_exchange_of(
         if cheaper_exchange(alloc, search, rule, at, first, second)? {
             return Ok(true);
         }
-        row.note(second, at.weighed);
+        row.note(second, at.ruled_out);
         second = row.unknown_from(second + 1);
     }
     Ok(false)

@@ -7,7 +7,7 @@ ghost use Rattle.map_anneal.specs.Sought.{IsNodeMap};
 ghost use Rattle.map_anneal.specs.Searches.{sought_of};
 ghost use Rattle.map_anneal.specs.Untouched.{IsTouched, IsUntouched};
 ghost use Rattle.map_anneal.specs.Noted.{IsKnown};
-ghost use Rattle.map_anneal.specs.Weighed.{ArePairs, AreRows};
+ghost use Rattle.map_anneal.specs.RuledOut.{ArePairs, AreRows};
 ghost use Rattle.node_maps.specs.Marked.{marked_numbers, marked_of};
 
 use crate::notes::Notes;

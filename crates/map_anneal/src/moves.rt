@@ -16,14 +16,14 @@ ghost use Rattle.map_state.specs.Hosted.{placed_at};
 ghost use Rattle.map_state.specs.Tables.{IsSearch};
 ghost use Rattle.map_anneal.specs.Sought.{choices, candidates_at, moved, exchanged, price};
 ghost use Rattle.map_anneal.specs.Walk.{named};
-ghost use Rattle.map_anneal.specs.Weighed.{IsNoLess, swapped};
+ghost use Rattle.map_anneal.specs.RuledOut.{IsNoLess, swapped};
 ghost use Rattle.map_anneal.specs.Searches.{sought_of, IsTried};
 
 use crate::priced::place_of;
 use crate::tried::Tried;
 use cost_rule::StepRule;
 use lab_base::{Memory, NodeId};
-use map_state::{Foretold, MapState, Outcome, Search};
+use map_state::{MapState, Outcome, Predicted, Search};
 use node_maps::Place;
 use std::alloc::Global;
 
@@ -129,29 +129,29 @@ impl Tried {
             → Was search.now self.old.state.mapping.places self.old.state.mapping.plugs first.0.0 second.0.0 last → (m : MappingSeen)
             → node_map search.now.mapper.lab.now search.now.mapper.free.now search.now.mapper.wiring.now self.old.state.mapping.places
             ≡ Some m → below ≤ price (sought_of search.now rule.now.number) m) }
-        ensures weighed { IfOk result (λ yes. yes ≡ false → self.new.weighed ≡ true → (last : List PlaceSeen)
+        ensures ruled_out { IfOk result (λ yes. yes ≡ false → self.new.ruled_out ≡ true → (last : List PlaceSeen)
             → Was search.now self.old.state.mapping.places self.old.state.mapping.plugs first.0.0 second.0.0 last
             → IsNoLess (sought_of search.now rule.now.number) below self.old.state.mapping.places) }
     {
-        self.weighed = false;
+        self.ruled_out = false;
         if self.state.is_overfull(search, first.1) {
             return Ok(false);
         }
         if self.is_least_over(search, rule, below, told) {
-            self.weighed = true;
+            self.ruled_out = true;
             return Ok(false);
         }
         if !self.state.plan(alloc, search, first, second)? {
-            self.weighed = true;
+            self.ruled_out = true;
             return Ok(false);
         }
         let known = told || self.ignores_uses;
         if self.is_over(search, rule, first.0, second.0, below, known) {
-            self.weighed = true;
+            self.ruled_out = true;
             return Ok(false);
         }
         if !self.state.may_stay(alloc, search, first.0, second.0)? {
-            self.weighed = true;
+            self.ruled_out = true;
             return Ok(false);
         }
         if !self.state.commit(alloc, search, first.0, second.0)? {
@@ -161,7 +161,7 @@ impl Tried {
         let cost = cost_of(search, rule, &self.state);
         if u128::from(cost) >= below {
             self.state.undo(alloc, search);
-            self.weighed = true;
+            self.ruled_out = true;
             return Ok(false);
         }
         self.state.forget();
@@ -171,7 +171,7 @@ impl Tried {
 
     /// The least that a move of a virtual node to another of its candidates comes to by the interfaces that the rule gives. These are its parts, where
     /// they are told, or those but for the uses of trunks, which are enough where the cost rule ignores uses.
-    fn least_of(&self, search: &Search, node: usize, place: &Place) -> Foretold
+    fn least_of(&self, search: &Search, node: usize, place: &Place) -> Predicted
         requires search { IsSearch search.now }
         requires state { IsFeasibleState search.now self.now.state }
         requires virt { node < length search.now.mapper.wiring.now.nodes }
@@ -188,11 +188,11 @@ impl Tried {
             ≡ asked_place search.now.mapper.wiring.now (virt_at search.now.mapper.wiring.now node).asks place.now.1 }
     {
         if !self.ignores_uses {
-            if let Some(told) = self.state.foretell(search, node, place) {
+            if let Some(told) = self.state.predict(search, node, place) {
                 return told;
             }
         }
-        self.state.foretell_but_uses(search, node, place)
+        self.state.predict_but_uses(search, node, place)
     }
 
     /// Moves a virtual node to another of its candidates, where the map is feasible and costs less than that: where the move isn't told to cost
@@ -219,12 +219,12 @@ impl Tried {
         ensures over { IfOk result (λ yes. yes ≡ false → (m : MappingSeen)
             → moved (sought_of search.now rule.now.number) self.old.state.mapping node place.now ≡ Some m
             → below ≤ price (sought_of search.now rule.now.number) m) }
-        ensures weighed { IfOk result (λ yes. yes ≡ false → self.new.weighed ≡ true
+        ensures ruled_out { IfOk result (λ yes. yes ≡ false → self.new.ruled_out ≡ true
             → IsNoLess (sought_of search.now rule.now.number) below (slice_set self.old.state.mapping.places node place.now)) }
     {
         let least = self.least_of(search, node, place);
         if u128::from(rule.ask_parts(least.parts)) >= below {
-            self.weighed = true;
+            self.ruled_out = true;
             return Ok(false);
         }
         let told = least.whole || self.ignores_uses;
@@ -272,14 +272,14 @@ impl Tried {
             → moved (sought_of search.now rule.now.number) self.old.state.mapping node
             (slice_index_or (candidates_at (sought_of search.now rule.now.number) node) number no_place) ≡ Some m
             → below ≤ price (sought_of search.now rule.now.number) m) }
-        ensures weighed { IfOk result (λ yes. yes ≡ false → self.new.weighed ≡ true
+        ensures ruled_out { IfOk result (λ yes. yes ≡ false → self.new.ruled_out ≡ true
             → IsNoLess (sought_of search.now rule.now.number) below (slice_set self.old.state.mapping.places node
             (slice_index_or (candidates_at (sought_of search.now rule.now.number) node) number no_place))) }
     {
-        self.weighed = false;
+        self.ruled_out = false;
         let room = search.rooms.at(node, number);
         if self.state.is_full(search, node, room) {
-            self.weighed = true;
+            self.ruled_out = true;
             return Ok(false);
         }
         let place = search.candidates.at(node, number);
@@ -313,7 +313,7 @@ impl Tried {
         ensures back { self.new.state.back.items ≡ self.old.state.back.items }
         ensures sums { self.new.state.sums ≡ self.old.state.sums }
         ensures cost { self.new.cost ≡ self.old.cost }
-        ensures weighed { self.new.weighed ≡ self.old.weighed }
+        ensures ruled_out { self.new.ruled_out ≡ self.old.ruled_out }
     {
         self.state.place_virt(alloc, search, first, *first_place);
         self.state.place_virt(alloc, search, second, *second_place);
@@ -344,7 +344,7 @@ impl Tried {
         ensures over { IfOk result (λ yes. yes ≡ false → (m : MappingSeen)
             → exchanged (sought_of search.now rule.now.number) self.old.state.mapping first second ≡ Some m
             → below ≤ price (sought_of search.now rule.now.number) m) }
-        ensures weighed { IfOk result (λ yes. yes ≡ false → self.new.weighed ≡ true
+        ensures ruled_out { IfOk result (λ yes. yes ≡ false → self.new.ruled_out ≡ true
             → IsNoLess (sought_of search.now rule.now.number) below (swapped self.old.state.mapping first second)) }
     {
         let one = place_of(self.state.mapping.places.as_slice(), first);

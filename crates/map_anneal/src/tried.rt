@@ -17,7 +17,7 @@ pub struct Tried {
     pub state: MapState,
     pub cost: u64,
     /// Of the last move that came to nothing, whether it makes no cheaper map whatever is left of the trunks.
-    pub(crate) weighed: bool,
+    pub(crate) ruled_out: bool,
     /// Whether the cost rule is known to ignore the uses of trunks.
     pub(crate) ignores_uses: bool,
 }
@@ -42,7 +42,7 @@ impl Tried {
         Ok(Tried {
             state,
             cost,
-            weighed: false,
+            ruled_out: false,
             ignores_uses,
         })
     }

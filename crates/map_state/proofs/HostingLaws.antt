@@ -74,11 +74,11 @@ types_set c (x ∷ vs) (q ∷ places) (suc v) p lt few is =
     by false front back = refl
 
 -- a weight for each but one
-weighed : (n d e : ℕ) (x y : Bool) → 1 ≤ d → 1 ≤ e → e + new_if x ≡ d + new_if y → n * (e - 1) + cond (not x) n 0 ≡ n * (d - 1) + cond (not y) n 0
-weighed n d e true true some more is = let same : e ≡ d = omega (arith, is) in ap (λ (k : ℕ). n * (k - 1) + 0) same
-weighed n d e false false some more is = let same : e ≡ d = omega (arith, is) in ap (λ (k : ℕ). n * (k - 1) + n) same
-weighed n d e true false some more is = let same : e - 1 ≡ suc (d - 1) = omega (arith, is, some) in let step = ap (λ (k : ℕ). n * k) same ∙ mul-suc n (d - 1) in omega (arith, step)
-weighed n d e false true some more is = let same : d - 1 ≡ suc (e - 1) = omega (arith, is, more) in let step = ap (λ (k : ℕ). n * k) same ∙ mul-suc n (e - 1) in omega (arith, step)
+ruled_out : (n d e : ℕ) (x y : Bool) → 1 ≤ d → 1 ≤ e → e + new_if x ≡ d + new_if y → n * (e - 1) + cond (not x) n 0 ≡ n * (d - 1) + cond (not y) n 0
+ruled_out n d e true true some more is = let same : e ≡ d = omega (arith, is) in ap (λ (k : ℕ). n * (k - 1) + 0) same
+ruled_out n d e false false some more is = let same : e ≡ d = omega (arith, is) in ap (λ (k : ℕ). n * (k - 1) + n) same
+ruled_out n d e true false some more is = let same : e - 1 ≡ suc (d - 1) = omega (arith, is, some) in let step = ap (λ (k : ℕ). n * k) same ∙ mul-suc n (d - 1) in omega (arith, step)
+ruled_out n d e false true some more is = let same : d - 1 ≡ suc (e - 1) = omega (arith, is, more) in let step = ap (λ (k : ℕ). n * k) same ∙ mul-suc n (e - 1) in omega (arith, step)
 
 -- a class whose member v has another place
 member_class : (w : Wiring) (m : Mapping) (v c : ℕ) (p : Place) → v < length w.nodes → v < length m.places → is_member c (virt_at w v).asks ≡ true
@@ -99,7 +99,7 @@ member_class w m v c p lt few is =
         ≡ cond b ((class_at w c).weight * (different same_name (front ++ a ∷ back) - 1)) 0 + cond (b && not (list_any (same_name p.1) (front ++ a ∷ back))) (class_at w c).weight 0
     by false front back a = refl
     by true front back a =
-        weighed (class_at w c).weight (different same_name (front ++ a ∷ back)) (different same_name (front ++ p.1 ∷ back)) (list_any (same_name a) (front ++ p.1 ∷ back)) (list_any (same_name p.1) (front ++ a ∷ back))
+        ruled_out (class_at w c).weight (different same_name (front ++ a ∷ back)) (different same_name (front ++ p.1 ∷ back)) (list_any (same_name a) (front ++ p.1 ∷ back)) (list_any (same_name p.1) (front ++ a ∷ back))
         (some_different same_name front back a) (some_different same_name front back p.1) (replaced same_name bytes_eq-Decides front back a p.1)
 
 classes_after : (w : Wiring) (m : Mapping) (v : ℕ) (p : Place) (asks : Asks) → v < length w.nodes → v < length m.places → (virt_at w v).asks ≡ asks

@@ -22,7 +22,7 @@ use Rattle.map_state.specs.Nodes.{is_on, numbers_of, changes_of}
 use Rattle.map_state.specs.Tables.{IsSearch}
 use Rattle.map_state.specs.Hosted.{guests_at, placed_at}
 use Rattle.map_state.specs.States.{IsFeasibleState, IsPlanned}
-use Rattle.map_state.specs.Foretold.{IsLone}
+use Rattle.map_state.specs.Predicted.{IsLone}
 use Rattle.map_state.proofs.Alikes.{alike_moved}
 use Rattle.map_state.proofs.StateLaws.{placed_ends, planned_plugs, none_on, own_on, shaped_at}
 use Rattle.map_state.proofs.OrderedPlans.{noted_in_order, none_noted}

@@ -150,11 +150,11 @@ remade_to x m n new changes g noted =
 pub place_is : (p q : Place) → p.0.0 ≡ q.0.0 → p.1 ≡ q.1 → p ≡ q
 place_is p q node type = (λ j. (record { 0 = node j }, type j))
 
--- what isn't stale after a node was noted as stale is another node that wasn't stale before
-stale_now : (xs : List Bool) (k : ℕ) → get_or (set xs k true) k true ≡ true
-stale_now [] k = refl
-stale_now (x ∷ xs) zero = refl
-stale_now (x ∷ xs) (suc k) = stale_now xs k
+-- what isn't unserved after a node was noted as unserved is another node that wasn't unserved before
+unserved_now : (xs : List Bool) (k : ℕ) → get_or (set xs k true) k true ≡ true
+unserved_now [] k = refl
+unserved_now (x ∷ xs) zero = refl
+unserved_now (x ∷ xs) (suc k) = unserved_now xs k
 
 pub record IsFresh (xs : List Bool) (k n : ℕ) : Type 0 where
   pub other : n ≢ k
@@ -162,6 +162,6 @@ pub record IsFresh (xs : List Bool) (k n : ℕ) : Type 0 where
 
 pub fresh_before : (xs : List Bool) (k n : ℕ) → get_or (set xs k true) n true ≡ false → IsFresh xs k n
 fresh_before xs k n fresh = elim (cases_eq n k) [
-  | inl is ↦ absurd (let both : true ≡ false = sym (ap (λ (j : ℕ). get_or (set xs k true) j true) is ∙ stale_now xs k) ∙ fresh in cc both)
+  | inl is ↦ absurd (let both : true ≡ false = sym (ap (λ (j : ℕ). get_or (set xs k true) j true) is ∙ unserved_now xs k) ∙ fresh in cc both)
   | inr apart ↦ record { other = apart; before = sym (get_or-set_other xs k n true true apart) ∙ fresh }
 ]

@@ -13,8 +13,8 @@ pub record IsServed (x : Search) (m : Mapping) (n : ℕ) : Type 0 where
   pub shares : may_share x.mapper.lab.now x.mapper.wiring.now m.places n ≡ true
   pub given : plugs_from x.mapper.lab.now m.places (filter (is_on m.places n) x.mapper.ends.now) ≡ Some (plugs_where (is_on m.places n) x.mapper.ends.now m.plugs)
 
--- each node that isn't stale is served
+-- each node that isn't unserved is served
 pub record IsChosen (x : Search) (c : Chosen) : Type 0 where
   pub state : IsMapState x c.state
-  pub one_each : length c.stale.items ≡ length x.mapper.lab.now.nodes
-  pub served : (n : ℕ) → slice_index_or c.stale.items n true ≡ false → IsServed x c.state.mapping n
+  pub one_each : length c.unserved.items ≡ length x.mapper.lab.now.nodes
+  pub served : (n : ℕ) → slice_index_or c.unserved.items n true ≡ false → IsServed x c.state.mapping n

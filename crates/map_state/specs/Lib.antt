@@ -7,7 +7,7 @@ pub mod Hosted
 pub mod Reverted
 pub mod States
 pub mod Planned
-pub mod Foretold
+pub mod Predicted
 pub mod Placings
 pub mod Chosen
 pub mod Spare

@@ -19,7 +19,7 @@ use virt_topo::Mapping;
 pub struct Chosen {
     pub state: MapState,
     /// By node whether virtual nodes came or went since its ends got their plugs.
-    pub(crate) stale: Vec<bool>,
+    pub(crate) unserved: Vec<bool>,
 }
 
 /// Whether two places have the same node and type.
@@ -41,8 +41,8 @@ impl Chosen {
         ensures summed { IfOk result (λ chosen. IsSome chosen.state.sums) }
     {
         let state = MapState::of_choice(alloc, search, start)?;
-        let stale = vec![in alloc; true; search.mapper.lab.nodes().len()]?;
-        Ok(Chosen { state, stale })
+        let unserved = vec![in alloc; true; search.mapper.lab.nodes().len()]?;
+        Ok(Chosen { state, unserved })
     }
 
     /// A virtual node goes to one of its candidates.
@@ -61,11 +61,11 @@ impl Chosen {
             return;
         }
         self.state.place_virt(alloc, search, virt, place);
-        self.stale[old.0.0 as usize] = true;
-        self.stale[place.0.0 as usize] = true;
+        self.unserved[old.0.0 as usize] = true;
+        self.unserved[place.0.0 as usize] = true;
     }
 
-    /// Serves the node of a virtual node, if it is stale; false where that can't be.
+    /// Serves the node of a virtual node, if it is unserved; false where that can't be.
     fn refresh(&mut self, alloc: Global, search: &Search, virt: usize) -> Result<bool, Memory>
         requires search { IsSearch search.now }
         requires chosen { IsChosen search.now self.old }
@@ -74,19 +74,19 @@ impl Chosen {
         ensures rest { OnOk result (self.new.state.sums ≡ None → self.old.state.sums ≡ None) }
         ensures places { OnOk result (self.new.state.mapping.places ≡ self.old.state.mapping.places) }
         ensures fresh { IfOk result (λ yes. yes ≡ true
-            → slice_index_or self.new.stale.items (slice_index_or self.old.state.mapping.places virt no_place).0.0 true ≡ false) }
-        ensures kept { OnOk result ((n : ℕ) → slice_index_or self.old.stale.items n true ≡ false → slice_index_or self.new.stale.items n true ≡ false) }
+            → slice_index_or self.new.unserved.items (slice_index_or self.old.state.mapping.places virt no_place).0.0 true ≡ false) }
+        ensures kept { OnOk result ((n : ℕ) → slice_index_or self.old.unserved.items n true ≡ false → slice_index_or self.new.unserved.items n true ≡ false) }
         ensures none { IfOk result (λ yes. yes ≡ false
             → node_map search.now.mapper.lab.now search.now.mapper.free.now search.now.mapper.wiring.now self.old.state.mapping.places ≡ None) }
     {
         let node = self.state.mapping.places.as_slice()[virt].0;
-        if !self.stale[node.0 as usize] {
+        if !self.unserved[node.0 as usize] {
             return Ok(true);
         }
         if !self.state.serve_anew(alloc, search, node, virt)? {
             return Ok(false);
         }
-        self.stale[node.0 as usize] = false;
+        self.unserved[node.0 as usize] = false;
         Ok(true)
     }
 
@@ -98,7 +98,7 @@ impl Chosen {
         ensures rest { OnOk result (self.new.state.sums ≡ None → self.old.state.sums ≡ None) }
         ensures places { OnOk result (self.new.state.mapping.places ≡ self.old.state.mapping.places) }
         ensures fresh { IfOk result (λ yes. yes ≡ true → (v : ℕ) → v < length search.now.mapper.wiring.now.nodes
-            → slice_index_or self.new.stale.items (slice_index_or self.old.state.mapping.places v no_place).0.0 true ≡ false) }
+            → slice_index_or self.new.unserved.items (slice_index_or self.old.state.mapping.places v no_place).0.0 true ≡ false) }
         ensures none { IfOk result (λ yes. yes ≡ false
             → node_map search.now.mapper.lab.now search.now.mapper.free.now search.now.mapper.wiring.now self.old.state.mapping.places ≡ None) }
     {

@@ -3,13 +3,13 @@
 #![tactic(auto)]
 
 mod chosen;
-mod foretold;
 mod full;
 mod give;
 mod hosting;
 mod joints;
 mod members;
 mod placing;
+mod predicted;
 mod remake;
 mod search;
 mod serving;
@@ -20,9 +20,9 @@ mod table;
 mod ties;
 
 pub use chosen::Chosen;
-pub use foretold::Foretold;
 pub use hosting::{Hosting, Outcome};
 pub use placing::Placing;
+pub use predicted::Predicted;
 pub use search::Search;
 pub use state::MapState;
 pub use table::Table;

@@ -3,7 +3,7 @@ use Rattle.std.proofs.lemmas.List.{get_or_default}
 use Rattle.virt_topo.specs.declared.mapping.Mapping.{Mapping}
 use Rattle.map_anneal.specs.Sought.{NoExchange, choices}
 use Rattle.map_anneal.specs.Searches.{sought_of}
-use Rattle.map_anneal.specs.Weighed.{IsPairs}
+use Rattle.map_anneal.specs.RuledOut.{IsPairs}
 use Rattle.map_anneal.proofs.PairLaws.{pairs_set}
 use Rattle.map_anneal.proofs.Upward.{below_next}
 use Rattle.map_anneal.proofs.descent.any_cheaper_exchange.Goals as goal

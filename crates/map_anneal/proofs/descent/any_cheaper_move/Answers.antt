@@ -2,7 +2,7 @@ use Rattle.std.proofs.Common.{◌<◌, ◌∙◌, length, subst, arith, sym}
 use Rattle.virt_topo.specs.declared.mapping.Mapping.{Mapping}
 use Rattle.map_anneal.specs.Sought.{NoMove}
 use Rattle.map_anneal.specs.Searches.{sought_of}
-use Rattle.map_anneal.specs.Weighed.{IsRow}
+use Rattle.map_anneal.specs.RuledOut.{IsRow}
 use Rattle.map_anneal.proofs.TriedMoves.{rows_noted}
 use Rattle.map_anneal.proofs.Upward.{below_next}
 use Rattle.std.proofs.lemmas.Bool.{false≢true}

@@ -5,7 +5,7 @@ use Rattle.node_maps.specs.NodeMaps.{lab_places}
 use Rattle.node_maps.proofs.MapLaws.{candidates_count}
 use Rattle.map_anneal.specs.Sought.{candidates_at, price}
 use Rattle.map_anneal.specs.Searches.{sought_of}
-use Rattle.map_anneal.specs.Weighed.{IsNoLess, swapped}
+use Rattle.map_anneal.specs.RuledOut.{IsNoLess, swapped}
 use Rattle.map_anneal.proofs.MayHave.{listed_place}
 use Rattle.map_anneal.proofs.descent.cheaper_exchange.Goals as goal
 
@@ -54,8 +54,8 @@ returns-then-not-may_have-clause-none g c = λ is there back.
     let both : false ≡ true = sym c.if-not-may_have.true ∙ c.may_have.ensures.1 (among (candidates_at s c.args.first) (get_or c.args.search.now.candidates.now c.args.first []) (place_at m u) c.place_of-other.result (sym listed) (sym other) there) in
     absurd (cc both)
 
-pub returns-then-not-may_have-clause-weighed : goal.returns-then-not-may_have-clause-weighed
-returns-then-not-may_have-clause-weighed g c = λ is yes there back.
+pub returns-then-not-may_have-clause-ruled_out : goal.returns-then-not-may_have-clause-ruled_out
+returns-then-not-may_have-clause-ruled_out g c = λ is yes there back.
     let s = sought_of c.args.search.now c.args.rule.now.number in
     let m = c.args.at.now.state.mapping in
     let u = c.args.second in
@@ -74,8 +74,8 @@ returns-then-not-may_have-2-clause-none g c = λ is there back.
     let both : false ≡ true = sym c.if-not-may_have-2.true ∙ c.may_have-2.ensures.1 (among (candidates_at s c.args.second) (get_or c.args.search.now.candidates.now c.args.second []) (place_at m v) c.place_of-one.result (sym listed) (sym one) back) in
     absurd (cc both)
 
-pub returns-then-not-may_have-2-clause-weighed : goal.returns-then-not-may_have-2-clause-weighed
-returns-then-not-may_have-2-clause-weighed g c = λ is yes there back.
+pub returns-then-not-may_have-2-clause-ruled_out : goal.returns-then-not-may_have-2-clause-ruled_out
+returns-then-not-may_have-2-clause-ruled_out g c = λ is yes there back.
     let s = sought_of c.args.search.now c.args.rule.now.number in
     let m = c.args.at.now.state.mapping in
     let v = c.args.first in
@@ -102,9 +102,9 @@ exchange_if_cheaper-requires-clause-second_among g c =
     let listed = ap (λ (l : List (List Place)). get_or l c.args.second []) c.requires.search.listed in
     among (get_or c.args.search.now.candidates.now c.args.second []) (candidates_at s c.args.second) c.place_of-one.result (place_at m v) listed one (c.may_have-2.ensures.0 c.if-not-may_have-2.false)
 
-pub returns-clause-weighed : goal.returns-clause-weighed
-returns-clause-weighed g c = λ is yes there back.
+pub returns-clause-ruled_out : goal.returns-clause-ruled_out
+returns-clause-ruled_out g c = λ is yes there back.
     let s = sought_of c.args.search.now c.args.rule.now.number in
     let m = c.args.at.now.state.mapping in
     let below : ◌≡◌ {A = ℕ} c.from-below.result (price s m) = c.from-below.ensures ∙ c.requires.at.cost in
-    subst (λ (n : ℕ). IsNoLess s n (swapped m c.args.first c.args.second)) below (c.in_ok-yes.ensures.weighed is yes)
+    subst (λ (n : ℕ). IsNoLess s n (swapped m c.args.first c.args.second)) below (c.in_ok-yes.ensures.ruled_out is yes)

@@ -3,7 +3,7 @@ use Rattle.std.proofs.lemmas.Bool.{cases_lt}
 use Rattle.virt_topo.specs.declared.mapping.Mapping.{Mapping}
 use Rattle.map_anneal.specs.Searches.{sought_of}
 use Rattle.map_anneal.specs.Sought.{NoExchange}
-use Rattle.map_anneal.specs.Weighed.{IsExchangeNoLess, IsPairs}
+use Rattle.map_anneal.specs.RuledOut.{IsExchangeNoLess, IsPairs}
 use Rattle.map_anneal.proofs.PairLaws.{known_no_exchange, pair_noted}
 use Rattle.map_anneal.proofs.Upward.{below_next}
 use Rattle.map_anneal.proofs.descent.cheaper_exchange_of.Goals as goal
@@ -32,9 +32,9 @@ loop-second-preserved g c =
     let was = c.loop-second.invariant in
     let done = c.in_ok-cheaper_exchange.ensures in
     let lt : u < length c.loop-second.row = omega (arith, c.loop-second-test.true, c.len.ensures) in
-    let noted = c.cheaper_exchange.new.at.weighed in
+    let noted = c.cheaper_exchange.new.at.ruled_out in
     let row : IsPairs s m v c.note.new.self = subst (IsPairs s m v) (sym c.note.ensures)
-    (pair_noted s m v u c.loop-second.row noted was.row lt (λ is. subst (λ (y : Mapping). IsExchangeNoLess s y v u) was.same (done.weighed c.if-branch.false is))) in
+    (pair_noted s m v u c.loop-second.row noted was.row lt (λ is. subst (λ (y : Mapping). IsExchangeNoLess s y v u) was.same (done.ruled_out c.if-branch.false is))) in
     let found = c.unknown_from-second-in-loop-second.ensures in
     let Done : ℕ → Type 0 = λ n. v < n → NoExchange s m v n in
     record {

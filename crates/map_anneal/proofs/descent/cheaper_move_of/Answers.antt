@@ -2,7 +2,7 @@ use Rattle.std.proofs.Common.{◌≡◌, ◌<◌, ◌+◌, ◌∙◌, inl, inr, 
 use Rattle.std.proofs.lemmas.Bool.{cases_lt}
 use Rattle.map_anneal.specs.Sought.{moved, price, IsNoCheaper}
 use Rattle.map_anneal.specs.Searches.{sought_of}
-use Rattle.map_anneal.specs.Weighed.{IsRow}
+use Rattle.map_anneal.specs.RuledOut.{IsRow}
 use Rattle.map_anneal.proofs.RowLaws.{row_noted}
 use Rattle.map_anneal.proofs.TriedMoves.{candidate_at, known_no_cheaper, no_move, tried_no_cheaper, tried_no_less}
 use Rattle.map_anneal.proofs.Upward.{below_next}
@@ -35,7 +35,7 @@ loop-number-preserved g c =
     let lt : n < length c.loop-number.row = omega (arith, c.loop-number-test.true, c.len.ensures) in
     let over : ◌≡◌ {A = ℕ} c.from-below.result (price s m) = c.from-below.ensures ∙ c.requires.at.cost in
     let row : IsRow s m v c.note.new.self = subst (IsRow s m v) (sym c.note.ensures)
-    (row_noted s m v n c.loop-number.row c.move_if_cheaper.new.self.weighed was.row lt (λ noted. tried_no_less s m last v n c.from-below.result was.same over (done.weighed c.if-branch.false noted))) in
+    (row_noted s m v n c.loop-number.row c.move_if_cheaper.new.self.ruled_out was.row lt (λ noted. tried_no_less s m last v n c.from-below.result was.same over (done.ruled_out c.if-branch.false noted))) in
     let found = c.unknown_from-number-in-loop-number.ensures in
     let Done : ℕ → Type 0 = λ k. IsNoCheaper s m (moved s m v (candidate_at s v k)) in
     record {

@@ -2,7 +2,7 @@ use Rattle.std.proofs.Common.{◌≡◌, ◌<◌, ◌-◌, ℕ, length, get_or}
 use Rattle.lab_model.specs.Rules.{no_place}
 use Rattle.map_anneal.specs.Sought.{IsNoCheaper, candidates_at, moved}
 use Rattle.map_anneal.specs.Searches.{sought_of, IsTried}
-use Rattle.map_anneal.specs.Weighed.{IsRow}
+use Rattle.map_anneal.specs.RuledOut.{IsRow}
 use Rattle.map_anneal.proofs.descent.cheaper_move_of.Given as goal
 
 abbrev pub invariant-loop-number : goal.invariant-loop-number

@@ -3,7 +3,7 @@ use Rattle.std.proofs.lemmas.Bool.{false≢true}
 use Rattle.virt_topo.specs.declared.mapping.Mapping.{Mapping}
 use Rattle.map_anneal.specs.Sought.{choices, NoExchange}
 use Rattle.map_anneal.specs.Searches.{sought_of}
-use Rattle.map_anneal.specs.Weighed.{ArePairs}
+use Rattle.map_anneal.specs.RuledOut.{ArePairs}
 use Rattle.map_anneal.proofs.descent.cheaper_neighbour.Goals as goal
 
 pub any_cheaper_move-requires-clause-rows : goal.any_cheaper_move-requires-clause-rows

@@ -4,7 +4,7 @@ use Rattle.std.proofs.lemmas.Bool.{cases_eq}
 use Rattle.std.proofs.lemmas.List.{length-set, get_or_default}
 use Rattle.node_maps.proofs.MapLaws.{candidates_count}
 use Rattle.map_anneal.specs.Searches.{sought_of}
-use Rattle.map_anneal.specs.Weighed.{IsPairs}
+use Rattle.map_anneal.specs.RuledOut.{IsPairs}
 use Rattle.map_anneal.proofs.NoteLaws.{known_unmarked, numbers_within}
 use Rattle.map_anneal.proofs.PairLaws.{pairs_after}
 use Rattle.map_anneal.proofs.known.follow_pairs.Goals as goal

@@ -7,7 +7,7 @@ use Rattle.node_maps.specs.Marked.{marked_of, marks_of}
 use Rattle.node_maps.proofs.MapLaws.{candidates_count}
 use Rattle.map_anneal.specs.Sought.{candidates_at, choices}
 use Rattle.map_anneal.specs.Searches.{sought_of}
-use Rattle.map_anneal.specs.Weighed.{IsRow}
+use Rattle.map_anneal.specs.RuledOut.{IsRow}
 use Rattle.map_anneal.proofs.NoteLaws.{known_unmarked, numbers_within}
 use Rattle.map_anneal.proofs.RowLaws.{row_after}
 use Rattle.map_anneal.proofs.known.follow_rows.Goals as goal

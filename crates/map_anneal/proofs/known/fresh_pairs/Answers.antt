@@ -3,7 +3,7 @@ use Rattle.std.proofs.lemmas.Bool.{cases_eq}
 use Rattle.std.proofs.lemmas.List.{get_or_append_left, get_or_push, length_push}
 use Rattle.lab_model.specs.Shapes.{Place}
 use Rattle.map_anneal.specs.Searches.{sought_of}
-use Rattle.map_anneal.specs.Weighed.{IsPairs}
+use Rattle.map_anneal.specs.RuledOut.{IsPairs}
 use Rattle.map_anneal.proofs.PairLaws.{fresh_pairs}
 use Rattle.map_anneal.proofs.known.fresh_pairs.Goals as goal
 

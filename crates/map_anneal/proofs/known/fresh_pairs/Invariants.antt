@@ -1,6 +1,6 @@
 use Rattle.std.proofs.Common.{◌≡◌, ◌<◌, ℕ, [], length, get_or}
 use Rattle.map_anneal.specs.Searches.{sought_of}
-use Rattle.map_anneal.specs.Weighed.{IsPairs}
+use Rattle.map_anneal.specs.RuledOut.{IsPairs}
 use Rattle.map_anneal.proofs.known.fresh_pairs.Given as goal
 
 abbrev pub invariant-loop-virt : goal.invariant-loop-virt

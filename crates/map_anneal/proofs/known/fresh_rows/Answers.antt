@@ -4,7 +4,7 @@ use Rattle.std.proofs.lemmas.List.{get_or_append_left, get_or_push, length_push}
 use Rattle.lab_model.specs.Shapes.{Place}
 use Rattle.map_anneal.specs.Sought.{candidates_at}
 use Rattle.map_anneal.specs.Searches.{sought_of}
-use Rattle.map_anneal.specs.Weighed.{IsRow}
+use Rattle.map_anneal.specs.RuledOut.{IsRow}
 use Rattle.map_anneal.proofs.RowLaws.{fresh_row}
 use Rattle.map_anneal.proofs.known.fresh_rows.Goals as goal
 

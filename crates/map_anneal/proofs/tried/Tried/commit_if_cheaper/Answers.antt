@@ -11,7 +11,7 @@ use Rattle.node_maps.proofs.MovedLaws.{no_plugs}
 use Rattle.map_state.specs.States.{Was}
 use Rattle.map_anneal.specs.Sought.{price}
 use Rattle.map_anneal.specs.Searches.{sought_of}
-use Rattle.map_anneal.specs.Weighed.{IsNoLess}
+use Rattle.map_anneal.specs.RuledOut.{IsNoLess}
 use Rattle.map_anneal.proofs.TriedMoves.{never_kept, served_is, commit_no_less}
 use Rattle.std.proofs.lemmas.Bool.{false≢true}
 use Rattle.map_anneal.proofs.tried.Tried.commit_if_cheaper.Goals as goal
@@ -27,8 +27,8 @@ returns-then-not-branch-clause-over g c = λ is last was m found.
     let no_map = no_plugs x.lab.now x.free.now x.wiring.now places (ap (λ (y : Mapping). plugs_of x.lab.now x.wiring.now y.places) (sym c.plan.ensures.mapping) ∙ none) in
     absurd (never m (no_map ∙ found))
 
-pub returns-then-not-branch-clause-weighed : goal.returns-then-not-branch-clause-weighed
-returns-then-not-branch-clause-weighed g c = λ is yes last was plugs kept.
+pub returns-then-not-branch-clause-ruled_out : goal.returns-then-not-branch-clause-ruled_out
+returns-then-not-branch-clause-ruled_out g c = λ is yes last was plugs kept.
     let x = c.args.search.now.mapper in
     let none = c.in_ok-plan.ensures.none c.if-not-branch.true in
     absurd (none-some plugs (sym (ap (λ (y : Mapping). plugs_of x.lab.now x.wiring.now y.places) (sym c.plan.ensures.mapping) ∙ none) ∙ kept.given))
@@ -44,8 +44,8 @@ returns-then-not-branch-2-clause-over g c = λ is last was m found.
     let all = parts_of_map x.lab.now x.free.now x.wiring.now places m found in
     absurd (never_kept x.lab.now x.wiring.now places a b stays test c.if-not-branch-2.true c.requires.first c.requires.second all.shared all.typed)
 
-pub returns-then-not-branch-2-clause-weighed : goal.returns-then-not-branch-2-clause-weighed
-returns-then-not-branch-2-clause-weighed g c = λ is yes last was plugs kept.
+pub returns-then-not-branch-2-clause-ruled_out : goal.returns-then-not-branch-2-clause-ruled_out
+returns-then-not-branch-2-clause-ruled_out g c = λ is yes last was plugs kept.
     let x = c.args.search.now.mapper in
     let places = c.args.self.now.state.mapping.places in
     let a = c.args.first.0.0 in
@@ -54,8 +54,8 @@ returns-then-not-branch-2-clause-weighed g c = λ is yes last was plugs kept.
     let test = subst (λ (y : Mapping). IsTrue stays ↔ KeepsPlaces x.lab.now x.wiring.now y.places a b) c.plan.ensures.mapping c.in_ok-may_stay.ensures in
     absurd (never_kept x.lab.now x.wiring.now places a b stays test c.if-not-branch-2.true c.requires.first c.requires.second kept.shared kept.typed)
 
-pub returns-then-from-below-clause-weighed : goal.returns-then-from-below-clause-weighed
-returns-then-from-below-clause-weighed g c = λ is yes last was.
+pub returns-then-from-below-clause-ruled_out : goal.returns-then-from-below-clause-ruled_out
+returns-then-from-below-clause-ruled_out g c = λ is yes last was.
     let x = c.args.search.now in
     let s = sought_of c.args.search.now c.args.rule.now.number in
     let old = c.plan.new.self.mapping in
@@ -94,8 +94,8 @@ returns-then-is_overfull-clause-plugs g c = λ is. refl
 pub returns-then-is_overfull-clause-over : goal.returns-then-is_overfull-clause-over
 returns-then-is_overfull-clause-over g c = λ is last was m found. absurd (never m (sym (c.is_overfull.ensures.none c.if-is_overfull.true) ∙ found))
 
-pub returns-then-is_overfull-clause-weighed : goal.returns-then-is_overfull-clause-weighed
-returns-then-is_overfull-clause-weighed g c = λ is yes last was. absurd (false≢true yes)
+pub returns-then-is_overfull-clause-ruled_out : goal.returns-then-is_overfull-clause-ruled_out
+returns-then-is_overfull-clause-ruled_out g c = λ is yes last was. absurd (false≢true yes)
 
 pub returns-then-not-branch-clause-map : goal.returns-then-not-branch-clause-map
 returns-then-not-branch-clause-map g c = λ is. absurd (false≢true is)
@@ -250,8 +250,8 @@ returns-then-from-below-clause-places g c = c.undo-then-from-below.ensures.place
 pub returns-then-from-below-clause-plugs : goal.returns-then-from-below-clause-plugs
 returns-then-from-below-clause-plugs g c = λ is. c.undo-then-from-below.ensures.plugs ∙ c.in_ok-commit.ensures.back ∙ ap (λ (y : Mapping). y.plugs) c.plan.ensures.mapping
 
-pub returns-then-not-branch-3-clause-weighed : goal.returns-then-not-branch-3-clause-weighed
-returns-then-not-branch-3-clause-weighed g c = λ is yes last was. absurd (false≢true yes)
+pub returns-then-not-branch-3-clause-ruled_out : goal.returns-then-not-branch-3-clause-ruled_out
+returns-then-not-branch-3-clause-ruled_out g c = λ is yes last was. absurd (false≢true yes)
 
 pub returns-then-not-branch-3-clause-over : goal.returns-then-not-branch-3-clause-over
 returns-then-not-branch-3-clause-over g c = λ is last was m found.
@@ -285,8 +285,8 @@ returns-clause-same_cost g c = λ is. absurd (false≢true (sym is))
 pub returns-clause-over : goal.returns-clause-over
 returns-clause-over g c = λ is last was m found. absurd (false≢true (sym is))
 
-pub returns-clause-weighed : goal.returns-clause-weighed
-returns-clause-weighed g c = λ is yes last was. absurd (false≢true (sym is))
+pub returns-clause-ruled_out : goal.returns-clause-ruled_out
+returns-clause-ruled_out g c = λ is yes last was. absurd (false≢true (sym is))
 
 pub returns-clause-none : goal.returns-clause-none
 returns-clause-none g c = c.forget.ensures.none
@@ -366,5 +366,5 @@ returns-then-is_least_over-clause-over g c = λ is last was m found.
     let same = (mapped_is x.lab.now x.free.now x.wiring.now places m found).same_places in
     subst (λ (l : List Place). c.args.below ≤ price s (record { places = l; plugs = m.plugs })) (sym same) (c.is_least_over.ensures c.if-is_least_over.true m.plugs)
 
-pub returns-then-is_least_over-clause-weighed : goal.returns-then-is_least_over-clause-weighed
-returns-then-is_least_over-clause-weighed g c = λ is yes last was plugs kept. c.is_least_over.ensures c.if-is_least_over.true plugs
+pub returns-then-is_least_over-clause-ruled_out : goal.returns-then-is_least_over-clause-ruled_out
+returns-then-is_least_over-clause-ruled_out g c = λ is yes last was plugs kept. c.is_least_over.ensures c.if-is_least_over.true plugs

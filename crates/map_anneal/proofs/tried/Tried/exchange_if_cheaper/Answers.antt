@@ -5,7 +5,7 @@ use Rattle.lab_model.specs.Rules.{no_place, place_at}
 use Rattle.node_maps.specs.NodeMaps.{node_map}
 use Rattle.map_anneal.specs.Sought.{choices, price}
 use Rattle.map_anneal.specs.Searches.{sought_of}
-use Rattle.map_anneal.specs.Weighed.{IsNoLess}
+use Rattle.map_anneal.specs.RuledOut.{IsNoLess}
 use Rattle.map_anneal.proofs.Undone.{mapping_is, exchanged_at, exchanged_by, exchanged_back, was_exchanged}
 use Rattle.std.proofs.lemmas.Bool.{false≢true}
 use Rattle.map_anneal.proofs.tried.Tried.exchange_if_cheaper.Goals as goal
@@ -139,8 +139,8 @@ returns-clause-over g c = λ is map found.
     let was = was_exchanged x c.args.self.now.state c.place_both.new.self.state.mapping v u c.place_of-one.result.0.0 c.place_of-other.result.0.0 c.requires.tried.state v_lt u_lt there (ap (λ (p : Place). p.0.0) one) (ap (λ (p : Place). p.0.0) other) in
     c.in_ok-commit_if_cheaper.ensures.over c.if-branch.false m.places was map (ap (λ (y : Mapping). node_map x.mapper.lab.now x.mapper.free.now x.mapper.wiring.now y.places) there ∙ found)
 
-pub returns-clause-weighed : goal.returns-clause-weighed
-returns-clause-weighed g c = λ is yes.
+pub returns-clause-ruled_out : goal.returns-clause-ruled_out
+returns-clause-ruled_out g c = λ is yes.
     let x = c.args.search.now in
     let s = sought_of c.args.search.now c.args.rule.now.number in
     let m = c.args.self.now.state.mapping in
@@ -154,7 +154,7 @@ returns-clause-weighed g c = λ is yes.
     let there = exchanged_by m c.place_both.new.self.state.mapping v u c.place_of-one.result c.place_of-other.result one other c.place_both.ensures.mapping in
     let was = was_exchanged x c.args.self.now.state c.place_both.new.self.state.mapping v u c.place_of-one.result.0.0 c.place_of-other.result.0.0 c.requires.tried.state v_lt u_lt there (ap (λ (p : Place). p.0.0) one) (ap (λ (p : Place). p.0.0) other) in
     subst (λ (y : Mapping). IsNoLess s c.args.below y.places) there
-    (c.in_ok-commit_if_cheaper.ensures.weighed c.if-branch.false (sym c.place_both-2.ensures.weighed ∙ yes) m.places was)
+    (c.in_ok-commit_if_cheaper.ensures.ruled_out c.if-branch.false (sym c.place_both-2.ensures.ruled_out ∙ yes) m.places was)
 
 pub place_both-requires-clause-first : goal.place_both-requires-clause-first
 place_both-requires-clause-first g c =
@@ -265,8 +265,8 @@ returns-then-branch-clause-same_cost g c = λ is. absurd (false≢true (sym is))
 pub returns-then-branch-clause-over : goal.returns-then-branch-clause-over
 returns-then-branch-clause-over g c = λ is m found. absurd (false≢true (sym is))
 
-pub returns-then-branch-clause-weighed : goal.returns-then-branch-clause-weighed
-returns-then-branch-clause-weighed g c = λ is yes. absurd (false≢true (sym is))
+pub returns-then-branch-clause-ruled_out : goal.returns-then-branch-clause-ruled_out
+returns-then-branch-clause-ruled_out g c = λ is yes. absurd (false≢true (sym is))
 
 pub returns-clause-map : goal.returns-clause-map
 returns-clause-map g c = λ is. absurd (false≢true is)

@@ -9,7 +9,7 @@ use Rattle.cost_rule.proofs.PartLaws.{cost_is}
 use Rattle.node_maps.specs.NodeMaps.{plugs_of}
 use Rattle.map_state.specs.Members.{asked_place}
 use Rattle.map_state.specs.Hosted.{placed_at}
-use Rattle.map_state.specs.declared.foretold.Foretold.{Foretold}
+use Rattle.map_state.specs.declared.predicted.Predicted.{Predicted}
 use Rattle.map_anneal.proofs.tried.Tried.least_of.Goals as goal
 
 pub returns-in-Some-clause-least : goal.returns-in-Some-clause-least
@@ -17,27 +17,27 @@ returns-in-Some-clause-least c = λ number plugs given.
     let x = c.args.search.now.mapper in
     let places = (placed_at c.args.self.now.state.mapping c.args.node c.args.place.now).places in
     let m : Mapping = record { places = places; plugs = plugs } in
-    let IsTold : Foretold → Type 0 = λ t. (own : List IfaceId) → plugs_of x.lab.now x.wiring.now places ≡ Some own → t.parts ≡ parts_of x.lab.now x.wiring.now (record { places = places; plugs = own }) in
-    let told = subst (λ o. IfSome o IsTold) c.in-Some.is c.foretell.ensures.parts plugs given in
+    let IsTold : Predicted → Type 0 = λ t. (own : List IfaceId) → plugs_of x.lab.now x.wiring.now places ≡ Some own → t.parts ≡ parts_of x.lab.now x.wiring.now (record { places = places; plugs = own }) in
+    let told = subst (λ o. IfSome o IsTold) c.in-Some.is c.predict.ensures.parts plugs given in
     let same : ◌≡◌ {A = ℕ} (cost_of_parts number c.in-Some.told.parts) (cost_of_parts number (parts_of x.lab.now x.wiring.now m)) = ap (cost_of_parts number) told in
     omega (arith, same, cost_is number x.lab.now x.wiring.now m)
 
 pub returns-in-Some-clause-fit : goal.returns-in-Some-clause-fit
-returns-in-Some-clause-fit c = subst (λ o. IfSome o (λ (t : Foretold). AreParts t.parts)) c.in-Some.is c.foretell.ensures.fit
+returns-in-Some-clause-fit c = subst (λ o. IfSome o (λ (t : Predicted). AreParts t.parts)) c.in-Some.is c.predict.ensures.fit
 
 pub returns-in-Some-clause-soft : goal.returns-in-Some-clause-soft
 returns-in-Some-clause-soft c =
     let x = c.args.search.now.mapper in
     let m = placed_at c.args.self.now.state.mapping c.args.node c.args.place.now in
-    subst (λ o. IfSome o (λ (t : Foretold). t.parts.soft ≡ soft x.lab.now x.wiring.now m)) c.in-Some.is c.foretell.ensures.soft
+    subst (λ o. IfSome o (λ (t : Predicted). t.parts.soft ≡ soft x.lab.now x.wiring.now m)) c.in-Some.is c.predict.ensures.soft
 
 pub returns-in-Some-clause-counted : goal.returns-in-Some-clause-counted
 returns-in-Some-clause-counted c =
     let w = c.args.search.now.mapper.wiring.now in
-    subst (λ o. IfSome o (λ (t : Foretold). t.counted ≡ asked_place w (virt_at w c.args.node).asks c.args.place.now.1)) c.in-Some.is c.foretell.ensures.counted
+    subst (λ o. IfSome o (λ (t : Predicted). t.counted ≡ asked_place w (virt_at w c.args.node).asks c.args.place.now.1)) c.in-Some.is c.predict.ensures.counted
 
 pub returns-clause-least : goal.returns-clause-least
-returns-clause-least c = λ number plugs given. c.foretell_but_uses.ensures.least number plugs
+returns-clause-least c = λ number plugs given. c.predict_but_uses.ensures.least number plugs
 
 pub returns-clause-soft : goal.returns-clause-soft
-returns-clause-soft c = ap (λ (p : Parts). p.soft) c.foretell_but_uses.ensures.parts
+returns-clause-soft c = ap (λ (p : Parts). p.soft) c.predict_but_uses.ensures.parts

@@ -16,7 +16,7 @@ use Rattle.map_anneal.proofs.RoomLaws.{search_rooms, room_at, rooms_count, own_c
 use Rattle.map_anneal.proofs.RowLaws.{full_no_less}
 use Rattle.map_anneal.proofs.TriedMoves.{candidate_among, candidate_at}
 use Rattle.map_anneal.proofs.Undone.{stays}
-use Rattle.map_anneal.specs.Weighed.{IsNoLess}
+use Rattle.map_anneal.specs.RuledOut.{IsNoLess}
 use Rattle.map_anneal.proofs.tried.Tried.move_if_cheaper.Goals as goal
 
 pub is_full-requires-clause-node : goal.is_full-requires-clause-node
@@ -44,8 +44,8 @@ returns-then-is_full-clause-over g c = λ is m found.
     let none = c.is_full.ensures.none (candidate_at s v c.args.number) (candidate_among s v c.args.number c.requires.number) room c.if-is_full.true in
     absurd (never m (sym none ∙ found))
 
-pub returns-then-is_full-clause-weighed : goal.returns-then-is_full-clause-weighed
-returns-then-is_full-clause-weighed g c = λ is yes.
+pub returns-then-is_full-clause-ruled_out : goal.returns-then-is_full-clause-ruled_out
+returns-then-is_full-clause-ruled_out g c = λ is yes.
     let search = c.args.search.now in
     let s = sought_of search c.args.rule.now.number in
     let m = c.args.self.now.state.mapping in
@@ -143,8 +143,8 @@ returns-then-eq-clause-same g c = λ is. refl
 pub returns-then-eq-clause-same_cost : goal.returns-then-eq-clause-same_cost
 returns-then-eq-clause-same_cost g c = λ is. refl
 
-pub returns-then-eq-clause-weighed : goal.returns-then-eq-clause-weighed
-returns-then-eq-clause-weighed g c = λ is yes. absurd (false≢true yes)
+pub returns-then-eq-clause-ruled_out : goal.returns-then-eq-clause-ruled_out
+returns-then-eq-clause-ruled_out g c = λ is yes. absurd (false≢true yes)
 
 pub move_to_if_cheaper-requires-clause-tried : goal.move_to_if_cheaper-requires-clause-tried
 move_to_if_cheaper-requires-clause-tried g c = record { state = c.requires.tried.state; none = c.requires.tried.none; cost = c.requires.tried.cost; resting = c.requires.tried.resting }
@@ -170,13 +170,13 @@ returns-clause-over g c = λ is other found.
     let at = c.at-place.ensures.named ∙ ap (λ (l : List (List Place)). get_or (get_or l v []) c.args.number no_place) c.requires.search.listed in
     c.in_ok-yes.ensures.over is other (ap (λ (p : Place). node_map x.lab.now x.free.now x.wiring.now (set m.places v p)) at ∙ found)
 
-pub returns-clause-weighed : goal.returns-clause-weighed
-returns-clause-weighed g c = λ is yes.
+pub returns-clause-ruled_out : goal.returns-clause-ruled_out
+returns-clause-ruled_out g c = λ is yes.
     let s = sought_of c.args.search.now c.args.rule.now.number in
     let m = c.args.self.now.state.mapping in
     let v = c.args.node in
     let at = c.at-place.ensures.named ∙ ap (λ (l : List (List Place)). get_or (get_or l v []) c.args.number no_place) c.requires.search.listed in
-    subst (λ (p : Place). IsNoLess s c.args.below (set m.places v p)) at (c.in_ok-yes.ensures.weighed is yes)
+    subst (λ (p : Place). IsNoLess s c.args.below (set m.places v p)) at (c.in_ok-yes.ensures.ruled_out is yes)
 
 pub move_to_if_cheaper-requires-clause-among : goal.move_to_if_cheaper-requires-clause-among
 move_to_if_cheaper-requires-clause-among g c =

@@ -11,7 +11,7 @@ use Rattle.map_state.specs.Members.{asked_place}
 use Rattle.map_state.specs.Hosted.{placed_at}
 use Rattle.map_anneal.specs.Sought.{choices, price}
 use Rattle.map_anneal.specs.Searches.{sought_of}
-use Rattle.map_anneal.specs.Weighed.{IsNoLess}
+use Rattle.map_anneal.specs.RuledOut.{IsNoLess}
 use Rattle.map_state.proofs.Alikes.{place_within}
 use Rattle.map_anneal.proofs.Told.{map_over}
 use Rattle.map_anneal.proofs.Undone.{mapping_is, moved_back, was_moved}
@@ -142,8 +142,8 @@ returns-clause-over g c = λ is other found.
     let was = was_moved x c.args.self.now.state c.place_known.new.self.mapping v c.args.place.now c.place_of-old.result.0.0 c.requires.tried.state lt c.place_known.ensures.mapping from in
     c.in_ok-commit_if_cheaper.ensures.over c.if-branch.false m.places was other (ap (λ (y : Mapping). node_map x.mapper.lab.now x.mapper.free.now x.mapper.wiring.now y.places) c.place_known.ensures.mapping ∙ found)
 
-pub returns-clause-weighed : goal.returns-clause-weighed
-returns-clause-weighed g c = λ is yes.
+pub returns-clause-ruled_out : goal.returns-clause-ruled_out
+returns-clause-ruled_out g c = λ is yes.
     let x = c.args.search.now in
     let s = sought_of c.args.search.now c.args.rule.now.number in
     let m = c.args.self.now.state.mapping in
@@ -152,7 +152,7 @@ returns-clause-weighed g c = λ is yes.
     let lt : v < length m.places = omega (arith, c.requires.within, choice.one_each) in
     let from = ap (λ (p : Place). p.0.0) (c.place_of-old.ensures ∙ ap (λ (l : List Place). get_or l v no_place) c.as_slice.ensures) in
     let was = was_moved x c.args.self.now.state c.place_known.new.self.mapping v c.args.place.now c.place_of-old.result.0.0 c.requires.tried.state lt c.place_known.ensures.mapping from in
-    subst (λ (y : Mapping). IsNoLess s c.args.below y.places) c.place_known.ensures.mapping (c.in_ok-commit_if_cheaper.ensures.weighed c.if-branch.false yes m.places was)
+    subst (λ (y : Mapping). IsNoLess s c.args.below y.places) c.place_known.ensures.mapping (c.in_ok-commit_if_cheaper.ensures.ruled_out c.if-branch.false yes m.places was)
 
 pub returns-then-from-below-clause-over : goal.returns-then-from-below-clause-over
 returns-then-from-below-clause-over g c = λ is m found.
@@ -161,8 +161,8 @@ returns-then-from-below-clause-over g c = λ is m found.
     map_over s c.args.below places m (λ plugs given.
     (let least = c.least_of-least.ensures.least c.args.rule.now.number plugs given in omega (arith, c.if-from-below.true, c.from.ensures, c.ask_parts.ensures, least))) found
 
-pub returns-then-from-below-clause-weighed : goal.returns-then-from-below-clause-weighed
-returns-then-from-below-clause-weighed g c = λ is yes plugs kept.
+pub returns-then-from-below-clause-ruled_out : goal.returns-then-from-below-clause-ruled_out
+returns-then-from-below-clause-ruled_out g c = λ is yes plugs kept.
     let least = c.least_of-least.ensures.least c.args.rule.now.number plugs kept.given in
     omega (arith, c.if-from-below.true, c.from.ensures, c.ask_parts.ensures, least)
 

@@ -17,7 +17,7 @@ is_whole-requires-clause-served c = λ n lt.
           let within = there.within in
           let fresh = c.in_ok-refresh_all.ensures.fresh c.if-not-branch.false there.virt (omega (arith, within, count)) in
           let here : (get_or c.args.self.now.state.mapping.places there.virt no_place).0.0 ≡ n = ap (λ (l : List Place). (get_or l there.virt no_place).0.0) (sym places) ∙ there.at in
-          chosen.served n (ap (λ (k : ℕ). get_or c.refresh_all.new.self.stale.items k true) (sym here) ∙ fresh))
+          chosen.served n (ap (λ (k : ℕ). get_or c.refresh_all.new.self.unserved.items k true) (sym here) ∙ fresh))
       | inr none ↦ unused_served x m n c.requires.search chosen.state.shaped.places none
     ]
 

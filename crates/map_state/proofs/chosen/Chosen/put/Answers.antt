@@ -32,7 +32,7 @@ index_mut-requires-2 c =
     let inside = laid.shaped.in_nodes v no_place (let virt = c.requires.virt in let count = laid.shaped.places in omega (arith, virt, count)) in
     let node : c.args.place.0.0 < length x.lab.now.nodes = subst (λ (p : Place). p.0.0 < length x.lab.now.nodes) at inside in
     let each = c.requires.chosen.one_each in
-    let len = c.args.self.now.stale.ok.0 in
+    let len = c.args.self.now.unserved.ok.0 in
     omega (arith, node, each, len)
 
 pub returns-clause-chosen : goal.returns-clause-chosen
@@ -40,7 +40,7 @@ returns-clause-chosen c =
     let x = c.args.search.now in
     let m = c.args.self.now.state.mapping in
     let v = c.args.virt in
-    let stale = c.args.self.now.stale.items in
+    let unserved = c.args.self.now.unserved.items in
     let old : Place = c.index-as_slice-virt.result in
     let a = old.0.0 in
     let b = c.args.place.0.0 in
@@ -50,10 +50,10 @@ returns-clause-chosen c =
     let at : old ≡ get_or m.places v no_place = c.index-as_slice-virt.is ∙ ap (λ (l : List Place). get_or l v old) c.as_slice.ensures ∙ get_or_default m.places v old no_place lt in
     record {
       state = c.place_virt.ensures.state;
-      one_each = length-set (set stale a true) b true ∙ length-set stale a true ∙ before.one_each;
+      one_each = length-set (set unserved a true) b true ∙ length-set unserved a true ∙ before.one_each;
       served = λ n fresh.
-          let second = fresh_before (set stale a true) b n fresh in
-          let first = fresh_before stale a n second.before in
+          let second = fresh_before (set unserved a true) b n fresh in
+          let first = fresh_before unserved a n second.before in
           subst (λ (y : Mapping). IsServed x y n) (sym c.place_virt.ensures.mapping)
           (served_put x m v c.args.place n c.requires.search all lt second.other (λ e. first.other (e ∙ ap (λ (p : Place). p.0.0) (sym at))) (before.served n first.before));
     }
@@ -77,7 +77,7 @@ index_mut-requires c =
     let at : d ≡ get_or c.args.self.now.state.mapping.places v d = c.index-as_slice-virt.is ∙ ap (λ (l : List Place). get_or l v d) c.as_slice.ensures in
     let node = subst (λ (p : Place). p.0.0 < length x.lab.now.nodes) (sym at) (c.requires.chosen.state.shaped.in_nodes v d lt) in
     let each = c.requires.chosen.one_each in
-    let len = c.args.self.now.stale.ok.0 in
+    let len = c.args.self.now.unserved.ok.0 in
     omega (arith, node, each, len)
 
 pub returns-clause-places : goal.returns-clause-places

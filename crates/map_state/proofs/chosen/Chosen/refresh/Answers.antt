@@ -11,7 +11,7 @@ index-requires c =
     let lt : v < length c.args.self.now.state.mapping.places = (let virt = c.requires.virt in omega (arith, virt, all)) in
     let node = subst (λ (l : List Place). (get_or l v d).0.0 < length x.lab.now.nodes) (sym c.as_slice.ensures) (c.requires.chosen.state.shaped.in_nodes v d lt) in
     let each = c.requires.chosen.one_each in
-    let len = c.args.self.now.stale.ok.0 in
+    let len = c.args.self.now.unserved.ok.0 in
     omega (arith, node, each, len)
 
 pub serve_anew-requires-clause-node : goal.serve_anew-requires-clause-node
@@ -32,5 +32,5 @@ index_mut-requires c =
     let lt : v < length c.args.self.now.state.mapping.places = (let virt = c.requires.virt in omega (arith, virt, all)) in
     let node = subst (λ (l : List Place). (get_or l v d).0.0 < length x.lab.now.nodes) (sym c.as_slice.ensures) (c.requires.chosen.state.shaped.in_nodes v d lt) in
     let each = c.requires.chosen.one_each in
-    let len = c.args.self.now.stale.ok.0 in
+    let len = c.args.self.now.unserved.ok.0 in
     omega (arith, node, each, len)

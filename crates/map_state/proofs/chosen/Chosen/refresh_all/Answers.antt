@@ -9,7 +9,7 @@ loop-virt-preserved c =
     let told = c.in_ok-refresh.ensures in
     let before = c.loop-virt.invariant in
     let k = c.loop-virt.virt in
-    let stale = c.refresh.new.self.stale.items in
+    let unserved = c.refresh.new.self.unserved.items in
     let old = c.args.self.now.state.mapping.places in
     record {
       chosen = told.chosen;
@@ -17,8 +17,8 @@ loop-virt-preserved c =
       places = told.places ∙ before.places;
       fresh = λ v lt. elim (cases_eq v k) [
         | inl is ↦
-            (λ j. get_or stale (get_or old (is j) no_place).0.0 true)
-            ∙ ap (λ (l : List Place). get_or stale (get_or l k no_place).0.0 true) (sym before.places)
+            (λ j. get_or unserved (get_or old (is j) no_place).0.0 true)
+            ∙ ap (λ (l : List Place). get_or unserved (get_or l k no_place).0.0 true) (sym before.places)
             ∙ told.fresh c.if-not-branch.false
         | inr apart ↦ told.kept (get_or old v no_place).0.0 (before.fresh v (omega (arith, lt, apart)))
       ];

@@ -8,5 +8,5 @@ invariant-loop-virt l = record {
   chosen : IsChosen l.search l.self;
   rest : l.self.state.sums ≡ None → l.initial.self.state.sums ≡ None;
   places : l.self.state.mapping.places ≡ l.initial.self.state.mapping.places;
-  fresh : (v : ℕ) → v < l.virt → get_or l.self.stale.items (get_or l.initial.self.state.mapping.places v no_place).0.0 true ≡ false;
+  fresh : (v : ℕ) → v < l.virt → get_or l.self.unserved.items (get_or l.initial.self.state.mapping.places v no_place).0.0 true ≡ false;
 }

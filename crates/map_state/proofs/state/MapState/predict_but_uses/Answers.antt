@@ -8,7 +8,7 @@ use Rattle.map_state.specs.Hosted.{placed_at}
 use Rattle.map_state.proofs.Alikes.{candidate_within}
 use Rattle.map_state.proofs.StateLaws.{shaped_at}
 use Rattle.map_state.proofs.LoneLaws.{asked_of}
-use Rattle.map_state.proofs.state.MapState.foretell_but_uses.Goals as goal
+use Rattle.map_state.proofs.state.MapState.predict_but_uses.Goals as goal
 
 pub soft_after-soft-requires-clause-node : goal.soft_after-soft-requires-clause-node
 soft_after-soft-requires-clause-node c =

@@ -11,7 +11,7 @@ ghost use Rattle.trunk_sums.specs.Summed.{IsSummed};
 ghost use Rattle.trunk_sums.specs.Totals.{used_of_all};
 ghost use Rattle.node_maps.specs.NodeMaps.{candidates, plugs_of};
 ghost use Rattle.map_state.specs.States.{IsFeasibleState, IsMapState};
-ghost use Rattle.map_state.specs.Foretold.{IsLone};
+ghost use Rattle.map_state.specs.Predicted.{IsLone};
 ghost use Rattle.map_state.specs.Members.{asked_place};
 ghost use Rattle.map_state.specs.Nodes.{changes_of, numbers_of};
 ghost use Rattle.map_state.specs.Hosted.{placed_at};
@@ -28,7 +28,7 @@ use trunk_sums::{Change, Sums};
 
 /// The parts of the cost after a move, with the uses of trunks or without them, and where the virtual node is counted then, if it is.
 #[derive(Clone, Copy)]
-pub struct Foretold {
+pub struct Predicted {
     pub parts: Parts,
     pub counted: Option<usize>,
     /// Whether the uses of trunks are among the parts.
@@ -102,7 +102,7 @@ impl MapState {
 
     /// The parts of the cost after a move of a virtual node to another of its candidates, but for the uses of trunks, and where it is counted then. What
     /// they cost is at most what the move comes to, whatever interfaces the rule gives.
-    pub fn foretell_but_uses(&self, search: &Search, virt: usize, place: &Place) -> Foretold
+    pub fn predict_but_uses(&self, search: &Search, virt: usize, place: &Place) -> Predicted
         requires search { IsSearch search.now }
         requires state { IsMapState search.now self.now }
         requires virt { virt < length search.now.mapper.wiring.now.nodes }
@@ -136,7 +136,7 @@ impl MapState {
             nodes,
             soft,
         };
-        Foretold {
+        Predicted {
             parts,
             counted,
             whole: false,
@@ -145,7 +145,7 @@ impl MapState {
 
     /// The parts of the cost after a move of a virtual node to another of its candidates, whatever interfaces the rule gives. They are told exactly
     /// where it is alone on its node, the other node is empty, and each of its ends fits the interface of its own place there.
-    pub fn foretell(&self, search: &Search, virt: usize, place: &Place) -> Option<Foretold>
+    pub fn predict(&self, search: &Search, virt: usize, place: &Place) -> Option<Predicted>
         requires search { IsSearch search.now }
         requires state { IsFeasibleState search.now self.now }
         requires virt { virt < length search.now.mapper.wiring.now.nodes }
@@ -192,7 +192,7 @@ impl MapState {
             nodes: self.hosting.nodes,
             soft,
         };
-        Some(Foretold {
+        Some(Predicted {
             parts,
             counted,
             whole: true,

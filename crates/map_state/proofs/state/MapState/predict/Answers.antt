@@ -18,7 +18,7 @@ use Rattle.map_state.proofs.StateLaws.{shaped_at}
 use Rattle.map_state.proofs.LoneLaws.{asked_of, lone_changes, lone_plugs}
 use Rattle.map_state.proofs.PartSums.{uses_are}
 use Rattle.map_state.proofs.HostingLaws.{used_alone}
-use Rattle.map_state.proofs.state.MapState.foretell.Goals as goal
+use Rattle.map_state.proofs.state.MapState.predict.Goals as goal
 
 pub is_lone-requires-clause-node : goal.is_lone-requires-clause-node
 is_lone-requires-clause-node c =

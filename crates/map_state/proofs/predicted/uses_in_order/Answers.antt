@@ -18,7 +18,7 @@ use Rattle.map_state.specs.Nodes.{changes_of, numbers_of, no_row}
 use Rattle.map_state.specs.Tables.{IsSearch}
 use Rattle.map_state.proofs.StateLaws.{numbers_in}
 use Rattle.map_state.proofs.OwnEnds.{change_at, changes_length, own_are, own_apart, own_few}
-use Rattle.map_state.proofs.foretold.uses_in_order.Goals as goal
+use Rattle.map_state.proofs.predicted.uses_in_order.Goals as goal
 
 abbrev none : Change
 none = record { end = 0; row = no_row; to = record { 0 = 0 } }

@@ -2,7 +2,7 @@ use Rattle.std.proofs.Common.{◌≡◌, ◌==◌, map, take}
 use Rattle.trunk_sums.specs.Remade.{remade}
 use Rattle.trunk_sums.specs.Totals.{used_of_all}
 use Rattle.map_state.specs.Nodes.{changes_of, numbers_of}
-use Rattle.map_state.proofs.foretold.uses_in_order.Given as goal
+use Rattle.map_state.proofs.predicted.uses_in_order.Given as goal
 
 abbrev pub invariant-loop-number : goal.invariant-loop-number
 invariant-loop-number l = record {
