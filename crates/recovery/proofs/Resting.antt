@@ -106,16 +106,16 @@ left_first busy es e h moving = elim (cases_Bool (is_busy busy e.name)) [
 ]
 
 -- NONE MOVES BUT THE BUSY ONES
-pub all_rest : (t : Texts) (s : LabState) (busy : List (List ℕ)) (before now : Seen) (j : Journal) (after : LabState) (settled : Settled) → Sane s → SettledAll t s busy before now j after settled → settled.stuck ≡ 0
+pub all_rest : (t : Texts) (s : LabState) (busy : List (List ℕ)) (before now : Seen) (i j : Journal) (after : LabState) (settled : Settled) → Sane s → SettledAll t s busy before now i j after settled → settled.stuck ≡ 0
     → (e : Experiment) → Has after.experiments e → is_moving e ≡ true → is_busy busy e.name ≡ true
-all_rest t s busy before now j after settled sane u none e h moving =
+all_rest t s busy before now i j after settled sane u none e h moving =
     elim (left_after busy (swaps_of busy s.experiments) s u.outcomes u.has.steps after sane.names u.has.settled (sym u.counts.stuck ∙ none) (left_first busy s.experiments) e h moving) [ inl is ↦ is | inr no' ↦ absurd no' ]
 
 -- and none where none is busy
-pub none_moves : (t : Texts) (s : LabState) (before now : Seen) (j : Journal) (after : LabState) (settled : Settled) → Sane s → SettledAll t s [] before now j after settled → settled.stuck ≡ 0
+pub none_moves : (t : Texts) (s : LabState) (before now : Seen) (i j : Journal) (after : LabState) (settled : Settled) → Sane s → SettledAll t s [] before now i j after settled → settled.stuck ≡ 0
     → (e : Experiment) → Has after.experiments e → is_moving e ≡ false
-none_moves t s before now j after settled sane u none e h =
+none_moves t s before now i j after settled sane u none e h =
     elim (cases_Bool (is_moving e)) [
-      | inl yes' ↦ let busy : false ≡ true = all_rest t s [] before now j after settled sane u none e h yes' in absurd (cc busy)
+      | inl yes' ↦ let busy : false ≡ true = all_rest t s [] before now i j after settled sane u none e h yes' in absurd (cc busy)
       | inr no' ↦ no'
     ]

@@ -24,6 +24,7 @@ use Rattle.swap_turns.specs.Causes.{IsLater}
 use Rattle.swap_turns.specs.declared.loops.Finished.{Finished}
 use Rattle.swap_turns.specs.declared.loops.Finished.TheVariants.{Ended, Stuck, Stopped}
 use Rattle.swap_turns.specs.Finishing.{end_of, Onward, along, back, Finishes, FinishGoesOn, FinishLeaves, IsFinishCaused, HasFinished, IsOnWay, IsStop, Tells}
+use Rattle.swap_turns.specs.Lengths.{IsLonger}
 use Rattle.swap_turns.specs.Legs.{Forth, Settling, commits, last_move, last_move_by, inside_by, why_of}
 use Rattle.swap_turns.specs.Running.{OpenSwap, AtWork}
 use Rattle.swap_turns.specs.Settling.{LeavesLab, OneLeaves, HasSettledOne}
@@ -60,7 +61,7 @@ suits_by s lab exp e old new sane is found moving = subst (λ l. SuitsIf (lab_in
 
 -- it is on its way
 pub way_of : (t : Texts) (s : LabState) (now : Seen) (j : Journal) (p : Swap) (state : Live) → AtWork t now.told j s → Moves p s
-    → state ≡ begun_again p.name (commands (lab_in s.lab) p.old p.new) (undo (lab_in s.lab) p.old p.new) (is_some p.old) (is_none p.new) → IsOnWay t s (settling p) now now j state
+    → state ≡ begun_again p.name (commands (lab_in s.lab) p.old p.new) (undo (lab_in s.lab) p.old p.new) (is_some p.old) (is_none p.new) → IsOnWay t s (settling p) now now j j state
 way_of t s now j p state work moves is = way_starts t s (settling p) now j state work (settling_open s p state moves is) (runs_from_now t now.told j s p Settling work moves)
 
 -- a settling stays one
@@ -76,9 +77,9 @@ as_ending : (s : LabState) (name exp : List ℕ) (commit committed : Bool) (afte
 as_ending s name exp true committed after named is gives = ap (λ b. moved s (ending exp b)) is ∙ ap (λ n. moved s (ending n true)) (sym named) ∙ gives
 as_ending s name exp false committed after named is gives = ap (λ b. moved s (ending exp b)) is ∙ ap (λ n. moved s (ending n false)) (sym named) ∙ gives
 
-module _ (t : Texts) (s : LabState) (exp : List ℕ) (p : Swap) (named : p.name ≡ exp) (before now : Seen) (k : Journal) where
+module _ (t : Texts) (s : LabState) (exp : List ℕ) (p : Swap) (named : p.name ≡ exp) (before now : Seen) (j k : Journal) where
   abbrev HasEnded : Over → Type 0
-  HasEnded ended = HasFinished t s (settling p) before now k (λ at outcome. Tells (Ended ended) at outcome)
+  HasEnded ended = HasFinished t s (settling p) before now j k (λ at outcome. Tells (Ended ended) at outcome)
 
   -- WHICH RECORD ENDED IT
   module _ (ended : Over) (f : HasEnded ended) where
@@ -108,7 +109,7 @@ module _ (t : Texts) (s : LabState) (exp : List ℕ) (p : Swap) (named : p.name 
         (subst (λ q. moved s (last_move q Settling) ≡ Some x) at.0 g.turn.0.1.moves)
 
   -- its last record can follow
-  pub can_end_by : Sane s → Moves p s → (end : Finished) → HasFinished t s (settling p) before now k (λ at outcome. Tells end at outcome) → CanEndBy s exp (end_of end)
+  pub can_end_by : Sane s → Moves p s → (end : Finished) → HasFinished t s (settling p) before now j k (λ at outcome. Tells end at outcome) → CanEndBy s exp (end_of end)
   can_end_by sane moves (Ended ended) f =
       let can = can_end p Settling moves.is_swap tt in
       (state_by p s moves.exp (is_none p.new), as_ending s p.name exp (is_none p.new) ended.committed _ named (committed_is ended f) (gives_by (is_none p.new) p s sane moves can))
@@ -116,8 +117,8 @@ module _ (t : Texts) (s : LabState) (exp : List ℕ) (p : Swap) (named : p.name 
   can_end_by sane moves Stopped f = tt
 
   module _ (after : LabState) where
-    module _ (Told : OpenSwap → Outcome → Type 0) (f : HasFinished t s (settling p) before now k Told) where
-      over_by : (outcome : Outcome) → f.outcome ≡ outcome → OneLeaves t s p before now k f.steps outcome after → HasSettledOne t s p before now k outcome after
+    module _ (Told : OpenSwap → Outcome → Type 0) (f : HasFinished t s (settling p) before now j k Told) where
+      over_by : (outcome : Outcome) → f.outcome ≡ outcome → OneLeaves t s p before now k f.steps outcome after → HasSettledOne t s p before now j k outcome after
       over_by outcome is leaves = record {
         steps = f.steps;
         told = f.told;
@@ -125,6 +126,7 @@ module _ (t : Texts) (s : LabState) (exp : List ℕ) (p : Swap) (named : p.name 
         sound = f.sound;
         later = f.later;
         cause = subst (λ o. IsFinishCaused (settling p) o before now) is f.cause;
+        longer = subst (λ o. turning.IfGoesOn o (IsLonger j k f.steps)) is f.longer;
       }
 
       leaves_as : (outcome : Outcome) → f.outcome ≡ outcome → FinishLeaves t s (settling p) before now k f.steps outcome
@@ -133,12 +135,12 @@ module _ (t : Texts) (s : LabState) (exp : List ℕ) (p : Swap) (named : p.name 
       left : (outcome : Outcome) (g : FinishGoesOn t s (settling p) before now k f.steps outcome) → g.after ≡ after → LeavesLab t s p before now k f.steps outcome after
       left outcome g is = subst (λ x. LeavesLab t s p before now k f.steps outcome x) is (record { is = g.is; work = g.work; others = g.others })
 
-      by_stuck : (trouble : Trouble) → f.outcome ≡ turning.Stuck trouble → after ≡ s → HasSettledOne t s p before now k (turning.Stuck trouble) after
+      by_stuck : (trouble : Trouble) → f.outcome ≡ turning.Stuck trouble → after ≡ s → HasSettledOne t s p before now j k (turning.Stuck trouble) after
       by_stuck trouble is same =
           let g : FinishGoesOn t s (settling p) before now k f.steps (turning.Stuck trouble) = leaves_as (turning.Stuck trouble) is in
           over_by (turning.Stuck trouble) is (left (turning.Stuck trouble) g (g.is.turn.3 ∙ sym same))
 
-    by_ended : (ended : Over) → HasEnded ended → moved s (ending exp ended.committed) ≡ Some after → IsFinishedAs t s p before now k after (Ended ended)
+    by_ended : (ended : Over) → HasEnded ended → moved s (ending exp ended.committed) ≡ Some after → IsFinishedAs t s p before now j k after (Ended ended)
     by_ended ended f ends =
         let is = outcome_is ended f in
         let g : FinishGoesOn t s (settling p) before now k f.steps (turning.Ended Settling) = leaves_as _ f (turning.Ended Settling) is in (
@@ -154,7 +156,7 @@ module _ (t : Texts) (s : LabState) (exp : List ℕ) (p : Swap) (named : p.name 
         )
 
     -- IT IS OVER, for the lab after it
-    pub over_as : (end : Finished) → HasFinished t s (settling p) before now k (λ at outcome. Tells end at outcome) → EndsBy s exp (end_of end) after → IsFinishedAs t s p before now k after end
+    pub over_as : (end : Finished) → HasFinished t s (settling p) before now j k (λ at outcome. Tells end at outcome) → EndsBy s exp (end_of end) after → IsFinishedAs t s p before now j k after end
     over_as (Ended ended) f ends = by_ended ended f ends
     over_as (Stuck (whats.Device name)) f ends = let told = f.is_told in (turning.Stuck told.0, (told.0, told.1, refl), by_stuck _ f told.0 told.2 ends)
     over_as (Stuck (whats.Late node)) f ends = let told = f.is_told in (turning.Stuck told.0, (told.0, told.1, refl), by_stuck _ f told.0 told.2 ends)
@@ -162,19 +164,19 @@ module _ (t : Texts) (s : LabState) (exp : List ℕ) (p : Swap) (named : p.name 
     over_as (Stuck whats.Journal) f ends = (turning.Unwritten, refl, over_by _ f turning.Unwritten f.is_told (leaves_as _ f turning.Unwritten f.is_told))
     over_as Stopped f ends = (turning.Stopped, refl, over_by _ f turning.Stopped f.is_told (leaves_as _ f turning.Stopped f.is_told))
 
-module _ (t : Texts) (s : LabState) (p : Swap) (before now : Seen) (k : Journal) (after : LabState) where
+module _ (t : Texts) (s : LabState) (p : Swap) (before now : Seen) (j k : Journal) (after : LabState) where
   abbrev Is : Result One SettleFault → Type 0
-  Is result = IsOverAs t s p before now k after result
+  Is result = IsOverAs t s p before now j k after result
 
-  settled_as : (outcome wanted : Outcome) → outcome ≡ wanted → HasSettledOne t s p before now k outcome after → HasSettledOne t s p before now k wanted after
-  settled_as outcome wanted is h = subst (λ o. HasSettledOne t s p before now k o after) is h
+  settled_as : (outcome wanted : Outcome) → outcome ≡ wanted → HasSettledOne t s p before now j k outcome after → HasSettledOne t s p before now j k wanted after
+  settled_as outcome wanted is h = subst (λ o. HasSettledOne t s p before now j k o after) is h
 
-  by_side : (inside : Bool) → inside ≡ settles_in p → HasSettledOne t s p before now k (turning.Ended Settling) after → Is (Ok (side_of inside))
+  by_side : (inside : Bool) → inside ≡ settles_in p → HasSettledOne t s p before now j k (turning.Ended Settling) after → Is (Ok (side_of inside))
   by_side true is h = (sym is, h)
   by_side false is h = (sym is, h)
 
   -- THE ANSWER tells how it is over
-  pub answered_as : (end : Finished) (result : Result One SettleFault) → IsFinishedAs t s p before now k after end → IsAnswerOf end result → Is result
+  pub answered_as : (end : Finished) (result : Result One SettleFault) → IsFinishedAs t s p before now j k after end → IsAnswerOf end result → Is result
   answered_as (Ended ended) result h is = subst Is (sym is) (by_side ended.inside h.1.inside (settled_as h.0 _ h.1.outcome_is h.2))
   answered_as (Stuck (whats.Device name)) result h is = subst Is (sym is) (h.1.0, h.1.1, settled_as h.0 _ h.1.2 h.2)
   answered_as (Stuck (whats.Late node)) result h is = subst Is (sym is) (h.1.0, h.1.1, settled_as h.0 _ h.1.2 h.2)
@@ -214,13 +216,13 @@ answer_of_memory (Stuck whats.Journal) result is h = plant_not_memory result is 
 answer_of_memory Stopped result is h = stopped_not_memory result is h
 
 -- counts do not fall
-pub later_as : (t : Texts) (s : LabState) (p : Swap) (before now : Seen) (k : Journal) (after : LabState) (result : Result One SettleFault) → IsOverAs t s p before now k after result → (IsErrOf result faults.Memory → now ≡ before) → IsLater before now
-later_as t s p before now k after (Ok one.Out) h same = h.1.later
-later_as t s p before now k after (Ok one.In) h same = h.1.later
-later_as t s p before now k after (Ok (one.Stuck what)) h same = h.2.later
-later_as t s p before now k after (Err faults.Plant) h same = h.later
-later_as t s p before now k after (Err faults.Stopped) h same = h.later
-later_as t s p before now k after (Err faults.Memory) h same = subst (λ x. IsLater before x) (sym (same refl)) (record { disk = omega arith; devices = omega arith })
+pub later_as : (t : Texts) (s : LabState) (p : Swap) (before now : Seen) (j k : Journal) (after : LabState) (result : Result One SettleFault) → IsOverAs t s p before now j k after result → (IsErrOf result faults.Memory → now ≡ before) → IsLater before now
+later_as t s p before now j k after (Ok one.Out) h same = h.1.later
+later_as t s p before now j k after (Ok one.In) h same = h.1.later
+later_as t s p before now j k after (Ok (one.Stuck what)) h same = h.2.later
+later_as t s p before now j k after (Err faults.Plant) h same = h.later
+later_as t s p before now j k after (Err faults.Stopped) h same = h.later
+later_as t s p before now j k after (Err faults.Memory) h same = subst (λ x. IsLater before x) (sym (same refl)) (record { disk = omega arith; devices = omega arith })
 
 pub later_same : (was now : Seen) → now ≡ was → IsLater was now
 later_same was now is = subst (λ x. IsLater was x) (sym is) (record { disk = omega arith; devices = omega arith })

@@ -54,7 +54,7 @@ pub some_due : (xs : List Swap) (p : Swap) (rest : List Swap) → xs ++ p ∷ re
 some_due [] p rest is = absurd (cc is)
 some_due (x ∷ xs) p rest is = absurd (cc is)
 
-module _ (t : Texts) (s : LabState) (busy : List (List ℕ)) (before was : Seen) (j : Journal) (n : ℕ) (mid : LabState) (settled : Settled) (u : SettledTo t s busy before was j n mid settled) (within : n + 1 ≤ length s.experiments) where
+module _ (t : Texts) (s : LabState) (busy : List (List ℕ)) (before was : Seen) (i j : Journal) (n : ℕ) (mid : LabState) (settled : Settled) (u : SettledTo t s busy before was i j n mid settled) (within : n + 1 ≤ length s.experiments) where
   -- NONE IS DUE there
   pub none_more : None ≡ name_of (due_in busy (slice_get mid.experiments n)) → swaps_of busy (take n s.experiments) ≡ swaps_of busy (take (n + 1) s.experiments)
   none_more none = by (slice_get s.experiments n) refl
@@ -68,17 +68,17 @@ module _ (t : Texts) (s : LabState) (busy : List (List ℕ)) (before was : Seen)
           let d = due_none busy e (subst (λ o. None ≡ name_of (due_in busy o)) (same ∙ is) none) in
           sym (swaps_more busy s.experiments n e is ∙ ap (λ o. swaps_of busy (take n s.experiments) ++ listed o) d ∙ append-nil (swaps_of busy (take n s.experiments)))
 
-  pub skipped : None ≡ name_of (due_in busy (slice_get mid.experiments n)) → SettledTo t s busy before was j (n + 1) mid settled
+  pub skipped : None ≡ name_of (due_in busy (slice_get mid.experiments n)) → SettledTo t s busy before was i j (n + 1) mid settled
   skipped none = record {
     outcomes = u.outcomes;
-    has = subst (λ l. HasSettled t s l before was j u.outcomes mid) (none_more none) u.has;
+    has = subst (λ l. HasSettled t s l before was i j u.outcomes mid) (none_more none) u.has;
     rest = rest_more mid.experiments s.experiments n u.rest;
     counts = u.counts;
     few = omega (arith, u.few);
   }
 
   -- memory was wanting: so far, and the rest
-  wanting : SettledSome t s busy before was j mid
+  wanting : SettledSome t s busy before was i j mid
   wanting = record {
     past = swaps_of busy (take n s.experiments);
     rest = swaps_of busy (drop n s.experiments);
@@ -104,16 +104,16 @@ module _ (t : Texts) (s : LabState) (busy : List (List ℕ)) (before was : Seen)
     ps_more : swaps_of busy (take n s.experiments) ++ p ∷ [] ≡ swaps_of busy (take (n + 1) s.experiments)
     ps_more = one_more e p at due_here
 
-    more : (outcome : Outcome) (next : Settled) → IsSettled outcome → HasSettledOne t mid p was now k outcome after → drop (n + 1) after.experiments ≡ drop (n + 1) mid.experiments → Counts next (u.outcomes ++ outcome ∷ []) → SettledTo t s busy before now k (n + 1) after next
+    more : (outcome : Outcome) (next : Settled) → IsSettled outcome → HasSettledOne t mid p was now j k outcome after → drop (n + 1) after.experiments ≡ drop (n + 1) mid.experiments → Counts next (u.outcomes ++ outcome ∷ []) → SettledTo t s busy before now i k (n + 1) after next
     more outcome next is_settled one rest counts = record {
       outcomes = u.outcomes ++ outcome ∷ [];
-      has = subst (λ l. HasSettled t s l before now k (u.outcomes ++ outcome ∷ []) after) ps_more (settled_more t s (swaps_of busy (take n s.experiments)) u.outcomes before was now j k mid after p outcome is_settled u.has one);
+      has = subst (λ l. HasSettled t s l before now i k (u.outcomes ++ outcome ∷ []) after) ps_more (settled_more t s (swaps_of busy (take n s.experiments)) u.outcomes before was now i j k mid after p outcome is_settled u.has one);
       rest = rest ∙ rest_more mid.experiments s.experiments n u.rest;
       counts = counts;
       few = omega (arith, u.few, length-append u.outcomes (outcome ∷ []));
     }
 
-    ended : (next : Settled) → HasSettledOne t mid p was now k (Ended Settling) after → next ≡ record { done = settled.done + 1; stuck = settled.stuck } → SettledTo t s busy before now k (n + 1) after next
+    ended : (next : Settled) → HasSettledOne t mid p was now j k (Ended Settling) after → next ≡ record { done = settled.done + 1; stuck = settled.stuck } → SettledTo t s busy before now i k (n + 1) after next
     ended next over is =
         let f = over.leaves.is in
         let x = ends_one mid (commits f.at.swap Settling) f.at.swap.name after f.turn.0.1.moves in
@@ -125,7 +125,7 @@ module _ (t : Texts) (s : LabState) (busy : List (List ℕ)) (before was : Seen)
           stuck = omega (arith, ap (λ (x : Settled). x.stuck) is, u.counts.stuck, count_more is_stuck u.outcomes (Ended Settling));
         })
 
-    cut : (trouble : Trouble) (next : Settled) → HasSettledOne t mid p was now k (Stuck trouble) after → next ≡ record { done = settled.done; stuck = settled.stuck + 1 } → SettledTo t s busy before now k (n + 1) after next
+    cut : (trouble : Trouble) (next : Settled) → HasSettledOne t mid p was now j k (Stuck trouble) after → next ≡ record { done = settled.done; stuck = settled.stuck + 1 } → SettledTo t s busy before now i k (n + 1) after next
     cut trouble next over is =
         let same : after ≡ mid = over.leaves.is.turn.3 in
         more (Stuck trouble) next tt over (ap (λ (x : LabState). drop (n + 1) x.experiments) same)
@@ -134,24 +134,24 @@ module _ (t : Texts) (s : LabState) (busy : List (List ℕ)) (before was : Seen)
           stuck = omega (arith, ap (λ (x : Settled). x.stuck) is, u.counts.stuck, count_more is_stuck u.outcomes (Stuck trouble));
         })
 
-    broken : (outcome : Outcome) → IsClosing outcome → HasSettledOne t mid p was now k outcome after → HasBrokenOff t s (swaps_of busy s.experiments) before now outcome
+    broken : (outcome : Outcome) → IsClosing outcome → HasSettledOne t mid p was now j k outcome after → HasBrokenOff t s (swaps_of busy s.experiments) before now outcome
     broken outcome closing over = subst (λ l. HasBrokenOff t s l before now outcome) (swaps_split busy s.experiments n e p at_s due_here)
-        (breaks_off t s (swaps_of busy (take n s.experiments)) u.outcomes before was now j k mid after p (swaps_of busy (drop (suc n) s.experiments)) outcome closing u.has over)
+        (breaks_off t s (swaps_of busy (take n s.experiments)) u.outcomes before was now i j k mid after p (swaps_of busy (drop (suc n) s.experiments)) outcome closing u.has over)
 
     -- ONE MORE IS SETTLED
-    pub stepped : (outcome : One) (next : Settled) → IsOverAs t mid p was now k after (Ok outcome) → CountedBy settled outcome next → SettledTo t s busy before now k (n + 1) after next
+    pub stepped : (outcome : One) (next : Settled) → IsOverAs t mid p was now j k after (Ok outcome) → CountedBy settled outcome next → SettledTo t s busy before now i k (n + 1) after next
     stepped one.Out next over is = ended next over.1 is
     stepped one.In next over is = ended next over.1 is
     stepped (one.Stuck what) next over is = cut over.0 next over.2 is
 
     -- or all breaks off
-    pub stepped_off : (fault : SettleFault) → IsOverAs t mid p was now k after (Err fault) → (fault ≡ faults.Memory → (after ≡ mid) × (k ≡ j) × (now ≡ was)) → AfterAll t s busy before now k after (Err fault)
+    pub stepped_off : (fault : SettleFault) → IsOverAs t mid p was now j k after (Err fault) → (fault ≡ faults.Memory → (after ≡ mid) × (k ≡ j) × (now ≡ was)) → AfterAll t s busy before now i k after (Err fault)
     stepped_off faults.Plant over same = broken Unwritten tt over
     stepped_off faults.Stopped over same = broken Stopped tt over
     stepped_off faults.Memory over same =
         let is = same refl in
-        subst (λ x. SettledSome t s busy before now k x) (sym is.0)
-        (subst (λ x. SettledSome t s busy before now x mid) (sym is.1) (subst (λ x. SettledSome t s busy before x j mid) (sym is.2) wanting))
+        subst (λ x. SettledSome t s busy before now i k x) (sym is.0)
+        (subst (λ x. SettledSome t s busy before now i x mid) (sym is.1) (subst (λ x. SettledSome t s busy before x i j mid) (sym is.2) wanting))
 
 -- where one breaks off, all do
 pub stops_as : (fault : SettleFault) (stopped : Bool) → IsErrOf {T = One} (Err fault) faults.Memory ⊎ (IsErrOf {T = One} (Err fault) faults.Stopped ↔ IsTrue stopped)
@@ -163,7 +163,7 @@ stops_as faults.Stopped stopped (inl is) = absurd (cc is)
 stops_as faults.Stopped stopped (inr both) = inr (λ is. both.0 refl, λ is. refl)
 
 -- NONE YET, and all
-pub none_settled : (t : Texts) (s : LabState) (busy : List (List ℕ)) (now : Seen) (j : Journal) (settled : Settled) → settled ≡ record { done = 0; stuck = 0 } → AtWork t now.told j s → SettledTo t s busy now now j 0 s settled
+pub none_settled : (t : Texts) (s : LabState) (busy : List (List ℕ)) (now : Seen) (j : Journal) (settled : Settled) → settled ≡ record { done = 0; stuck = 0 } → AtWork t now.told j s → SettledTo t s busy now now j j 0 s settled
 none_settled t s busy now j settled is work = record {
   outcomes = [];
   has = settled_none t s now j work;
@@ -172,16 +172,16 @@ none_settled t s busy now j settled is work = record {
   few = omega arith;
 }
 
-pub all_settled : (t : Texts) (s : LabState) (busy : List (List ℕ)) (before now : Seen) (j : Journal) (n : ℕ) (after : LabState) (settled : Settled) → length s.experiments ≤ n → SettledTo t s busy before now j n after settled → SettledAll t s busy before now j after settled
-all_settled t s busy before now j n after settled past u = record {
+pub all_settled : (t : Texts) (s : LabState) (busy : List (List ℕ)) (before now : Seen) (i j : Journal) (n : ℕ) (after : LabState) (settled : Settled) → length s.experiments ≤ n → SettledTo t s busy before now i j n after settled → SettledAll t s busy before now i j after settled
+all_settled t s busy before now i j n after settled past u = record {
   outcomes = u.outcomes;
-  has = subst (λ l. HasSettled t s (swaps_of busy l) before now j u.outcomes after) (take_all n s.experiments past) u.has;
+  has = subst (λ l. HasSettled t s (swaps_of busy l) before now i j u.outcomes after) (take_all n s.experiments past) u.has;
   counts = u.counts;
 }
 
 -- counts do not fall
-pub later_all : (t : Texts) (s : LabState) (busy : List (List ℕ)) (before now : Seen) (j : Journal) (after : LabState) (result : Result Settled SettleFault) → AfterAll t s busy before now j after result → IsLater before now
-later_all t s busy before now j after (Ok settled) h = h.has.later
-later_all t s busy before now j after (Err faults.Memory) h = h.has.later
-later_all t s busy before now j after (Err faults.Plant) h = h.later
-later_all t s busy before now j after (Err faults.Stopped) h = h.later
+pub later_all : (t : Texts) (s : LabState) (busy : List (List ℕ)) (before now : Seen) (i j : Journal) (after : LabState) (result : Result Settled SettleFault) → AfterAll t s busy before now i j after result → IsLater before now
+later_all t s busy before now i j after (Ok settled) h = h.has.later
+later_all t s busy before now i j after (Err faults.Memory) h = h.has.later
+later_all t s busy before now i j after (Err faults.Plant) h = h.later
+later_all t s busy before now i j after (Err faults.Stopped) h = h.later

@@ -35,13 +35,13 @@ abbrev pub settles_in : Swap → Bool
 settles_in p = inside_by p (commits p Settling)
 
 -- HOW IT IS OVER, as the answer tells: the settling ended, on that side; it was cut by that trouble; its last record was not written; or the plant stopped
-abbrev pub IsOverAs : Texts → LabState → Swap → Seen → Seen → Journal → LabState → Result One SettleFault → Type 0
-IsOverAs t s p before now k after (Ok one.Out) = (settles_in p ≡ false) × HasSettledOne t s p before now k (Ended Settling) after
-IsOverAs t s p before now k after (Ok one.In) = (settles_in p ≡ true) × HasSettledOne t s p before now k (Ended Settling) after
-IsOverAs t s p before now k after (Ok (one.Stuck what)) = (trouble : Trouble) × (what ≡ what_of trouble) × HasSettledOne t s p before now k (Stuck trouble) after
-IsOverAs t s p before now k after (Err faults.Plant) = HasSettledOne t s p before now k Unwritten after
-IsOverAs t s p before now k after (Err faults.Stopped) = HasSettledOne t s p before now k Stopped after
-IsOverAs t s p before now k after (Err faults.Memory) = Unit {0}
+abbrev pub IsOverAs : Texts → LabState → Swap → Seen → Seen → Journal → Journal → LabState → Result One SettleFault → Type 0
+IsOverAs t s p before now j k after (Ok one.Out) = (settles_in p ≡ false) × HasSettledOne t s p before now j k (Ended Settling) after
+IsOverAs t s p before now j k after (Ok one.In) = (settles_in p ≡ true) × HasSettledOne t s p before now j k (Ended Settling) after
+IsOverAs t s p before now j k after (Ok (one.Stuck what)) = (trouble : Trouble) × (what ≡ what_of trouble) × HasSettledOne t s p before now j k (Stuck trouble) after
+IsOverAs t s p before now j k after (Err faults.Plant) = HasSettledOne t s p before now j k Unwritten after
+IsOverAs t s p before now j k after (Err faults.Stopped) = HasSettledOne t s p before now j k Stopped after
+IsOverAs t s p before now j k after (Err faults.Memory) = Unit {0}
 
 -- what the experiment claims suits the lab
 abbrev pub SuitsIf : Lab → Option Mapped → Type 0
@@ -49,8 +49,8 @@ SuitsIf lab None = Unit {0}
 SuitsIf lab (Some m) = Suits lab m
 
 -- turned to its end, it left that lab
-abbrev pub IsFinishedAs : Texts → LabState → Swap → Seen → Seen → Journal → LabState → Finished → Type 0
-IsFinishedAs t s p before now k after end = (outcome : Outcome) × Tells end (settling p) outcome × HasSettledOne t s p before now k outcome after
+abbrev pub IsFinishedAs : Texts → LabState → Swap → Seen → Seen → Journal → Journal → LabState → Finished → Type 0
+IsFinishedAs t s p before now j k after end = (outcome : Outcome) × Tells end (settling p) outcome × HasSettledOne t s p before now j k outcome after
 
 -- the end of the experiment's move can follow, and follows, where its swap came to its last record
 abbrev pub CanEndBy : LabState → List ℕ → Option Over → Type 0

@@ -28,30 +28,30 @@ pub record Counts (settled : Settled) (outcomes : List Outcome) : Type 0 where
   pub stuck : settled.stuck ≡ count_by is_stuck outcomes
 
 -- ALL THAT ARE TO BE SETTLED WERE
-pub record SettledAll (t : Texts) (s : LabState) (busy : List (List ℕ)) (before now : Seen) (j : Journal) (after : LabState) (settled : Settled) : Type 0 where
+pub record SettledAll (t : Texts) (s : LabState) (busy : List (List ℕ)) (before now : Seen) (i j : Journal) (after : LabState) (settled : Settled) : Type 0 where
   pub outcomes : List Outcome
-  pub has : HasSettled t s (swaps_of busy s.experiments) before now j outcomes after
+  pub has : HasSettled t s (swaps_of busy s.experiments) before now i j outcomes after
   pub counts : Counts settled outcomes
 
 -- THE FIRST OF THEM WERE: memory was wanting before the next
-pub record SettledSome (t : Texts) (s : LabState) (busy : List (List ℕ)) (before now : Seen) (j : Journal) (after : LabState) : Type 0 where
+pub record SettledSome (t : Texts) (s : LabState) (busy : List (List ℕ)) (before now : Seen) (i j : Journal) (after : LabState) : Type 0 where
   pub past : List Swap
   pub rest : List Swap
   pub all : swaps_of busy s.experiments ≡ past ++ rest
   pub outcomes : List Outcome
-  pub has : HasSettled t s past before now j outcomes after
+  pub has : HasSettled t s past before now i j outcomes after
 
 -- AFTER A SETTLING of all: they were settled, or the first of them, or it broke off in one
-abbrev pub AfterAll : Texts → LabState → List (List ℕ) → Seen → Seen → Journal → LabState → Result Settled SettleFault → Type 0
-AfterAll t s busy before now j after (Ok settled) = SettledAll t s busy before now j after settled
-AfterAll t s busy before now j after (Err faults.Memory) = SettledSome t s busy before now j after
-AfterAll t s busy before now j after (Err faults.Plant) = HasBrokenOff t s (swaps_of busy s.experiments) before now Unwritten
-AfterAll t s busy before now j after (Err faults.Stopped) = HasBrokenOff t s (swaps_of busy s.experiments) before now Stopped
+abbrev pub AfterAll : Texts → LabState → List (List ℕ) → Seen → Seen → Journal → Journal → LabState → Result Settled SettleFault → Type 0
+AfterAll t s busy before now i j after (Ok settled) = SettledAll t s busy before now i j after settled
+AfterAll t s busy before now i j after (Err faults.Memory) = SettledSome t s busy before now i j after
+AfterAll t s busy before now i j after (Err faults.Plant) = HasBrokenOff t s (swaps_of busy s.experiments) before now Unwritten
+AfterAll t s busy before now i j after (Err faults.Stopped) = HasBrokenOff t s (swaps_of busy s.experiments) before now Stopped
 
 -- of the first n experiments those that are due were settled, and the others are as they were
-pub record SettledTo (t : Texts) (s : LabState) (busy : List (List ℕ)) (before now : Seen) (j : Journal) (n : ℕ) (after : LabState) (settled : Settled) : Type 0 where
+pub record SettledTo (t : Texts) (s : LabState) (busy : List (List ℕ)) (before now : Seen) (i j : Journal) (n : ℕ) (after : LabState) (settled : Settled) : Type 0 where
   pub outcomes : List Outcome
-  pub has : HasSettled t s (swaps_of busy (take n s.experiments)) before now j outcomes after
+  pub has : HasSettled t s (swaps_of busy (take n s.experiments)) before now i j outcomes after
   pub rest : drop n after.experiments ≡ drop n s.experiments
   pub counts : Counts settled outcomes
   pub few : length outcomes ≤ n

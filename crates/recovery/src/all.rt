@@ -92,7 +92,7 @@ pub fn settle<P: Plant>(
     plant: &mut P,
 ) -> Result<Settled, SettleFault>
     requires { AtWork the_texts (P.seen plant.old).told journal.old state.old.state }
-    ensures after { AfterAll the_texts state.old.state busy.now (P.seen plant.old) (P.seen plant.new) journal.new state.new.state result }
+    ensures after { AfterAll the_texts state.old.state busy.now (P.seen plant.old) (P.seen plant.new) journal.old journal.new state.new.state result }
     ensures stopped { (P.seen plant.old).stopped ≡ false → (IsErrOf result SettleFault.Stopped ↔ IsTrue (P.seen plant.new).stopped) }
     ensures stops { (swaps_of busy.now state.old.state.experiments ≡ [])
         ⊎ (IsErrOf result SettleFault.Memory ⊎ (IsErrOf result SettleFault.Stopped ↔ IsTrue (P.seen plant.new).stopped)) }

@@ -22,13 +22,13 @@ pub use one::{One, end_move, settle_one};
 
 /// Where none is stuck, no experiment but a busy one moves afterwards.
 pub fn all_rest()
-    ensures { (t : Texts) (s : LabState) (busy : List (List ℕ)) (before now : Seen) (j : Journal) (after : LabState) (settled : Counted)
-        → Sane s → SettledAll t s busy before now j after settled → settled.stuck ≡ 0 → (e : Experiment) → Has after.experiments e → is_moving e ≡ true
+    ensures { (t : Texts) (s : LabState) (busy : List (List ℕ)) (before now : Seen) (i j : Journal) (after : LabState) (settled : Counted)
+        → Sane s → SettledAll t s busy before now i j after settled → settled.stuck ≡ 0 → (e : Experiment) → Has after.experiments e → is_moving e ≡ true
         → is_busy busy e.name ≡ true }
 {}
 
 /// Where none is busy and none is stuck, no experiment moves afterwards.
 pub fn none_moves()
-    ensures { (t : Texts) (s : LabState) (before now : Seen) (j : Journal) (after : LabState) (settled : Counted) → Sane s
-        → SettledAll t s [] before now j after settled → settled.stuck ≡ 0 → (e : Experiment) → Has after.experiments e → is_moving e ≡ false }
+    ensures { (t : Texts) (s : LabState) (before now : Seen) (i j : Journal) (after : LabState) (settled : Counted) → Sane s
+        → SettledAll t s [] before now i j after settled → settled.stuck ≡ 0 → (e : Experiment) → Has after.experiments e → is_moving e ≡ false }
 {}

@@ -96,7 +96,7 @@ fn turned_to_end<P: Plant>(
     requires work { AtWork the_texts (P.seen plant.old).told journal.old state.old.state }
     requires moves { IsMoving state.old.state exp }
     ensures over { IfOk result (λ end. (p : Swap) → p.name ≡ exp → Moves p state.old.state
-        → IsFinishedAs the_texts state.old.state p (P.seen plant.old) (P.seen plant.new) journal.new state.new.state end) }
+        → IsFinishedAs the_texts state.old.state p (P.seen plant.old) (P.seen plant.new) journal.old journal.new state.new.state end) }
     ensures err { OnErr result ((state.new.state ≡ state.old.state) × (journal.new ≡ journal.old) × (plant.new ≡ plant.old)) }
     ensures stopped { IfOk result (λ end. IsStop end ↔ IsTrue (P.seen plant.new).stopped) }
     ensures limit { limit_of journal.new ≡ limit_of journal.old }
@@ -132,7 +132,7 @@ pub fn settle_one<P: Plant>(
     requires work { AtWork the_texts (P.seen plant.old).told journal.old state.old.state }
     requires moves { IsMoving state.old.state exp }
     ensures over { (p : Swap) → p.name ≡ exp → Moves p state.old.state
-        → IsOverAs the_texts state.old.state p (P.seen plant.old) (P.seen plant.new) journal.new state.new.state result }
+        → IsOverAs the_texts state.old.state p (P.seen plant.old) (P.seen plant.new) journal.old journal.new state.new.state result }
     ensures memory { IsErrOf result SettleFault.Memory → (state.new.state ≡ state.old.state) × (journal.new ≡ journal.old) × (plant.new ≡ plant.old) }
     ensures stopped { (P.seen plant.old).stopped ≡ false → (IsErrOf result SettleFault.Stopped ↔ IsTrue (P.seen plant.new).stopped) }
     ensures stops { IsErrOf result SettleFault.Memory ⊎ (IsErrOf result SettleFault.Stopped ↔ IsTrue (P.seen plant.new).stopped) }

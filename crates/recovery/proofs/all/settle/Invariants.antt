@@ -8,7 +8,7 @@ use Rattle.recovery.proofs.all.settle.Given as goal
 
 abbrev pub invariant-loop-n : goal.invariant-loop-n
 invariant-loop-n g l = record {
-  so_far : SettledTo the_texts l.fn.state.state l.busy (g.P.Plant.seen l.fn.plant) (g.P.Plant.seen l.plant) l.journal l.n l.state.state l.settled;
+  so_far : SettledTo the_texts l.fn.state.state l.busy (g.P.Plant.seen l.fn.plant) (g.P.Plant.seen l.plant) l.fn.journal l.journal l.n l.state.state l.settled;
   count_is : l.count ≡ length l.fn.state.state.experiments;
   runs : (g.P.Plant.seen l.fn.plant).stopped ≡ false → (g.P.Plant.seen l.plant).stopped ≡ false;
   ran : (swaps_of l.busy (take l.n l.fn.state.state.experiments) ≡ []) ⊎ ((g.P.Plant.seen l.plant).stopped ≡ false);

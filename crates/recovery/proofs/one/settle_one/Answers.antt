@@ -20,7 +20,7 @@ returns-in_err-finished-clause-later g c = later_same (g.P.Plant.seen c.args.pla
 
 pub returns-clause-over : goal.returns-clause-over
 returns-clause-over g c = λ p name moves.
-    answered_as the_texts c.args.state.now.state p _ _ c.turned_to_end.new.journal c.turned_to_end.new.state.state c.in_ok-finished.finished c.answer.result (c.in_ok-finished.ensures.over p name moves) c.answer.ensures
+    answered_as the_texts c.args.state.now.state p _ _ c.args.journal.now c.turned_to_end.new.journal c.turned_to_end.new.state.state c.in_ok-finished.finished c.answer.result (c.in_ok-finished.ensures.over p name moves) c.answer.ensures
 
 pub returns-clause-memory : goal.returns-clause-memory
 returns-clause-memory g c = λ h. absurd (answer_of_memory c.in_ok-finished.finished c.answer.result c.answer.ensures h)
@@ -34,8 +34,8 @@ returns-clause-stopped g c = λ running.
 pub returns-clause-later : goal.returns-clause-later
 returns-clause-later g c =
     let m = c.requires.moves in
-    later_as the_texts c.args.state.now.state m.swap (g.P.Plant.seen c.args.plant.now) (g.P.Plant.seen c.turned_to_end.new.plant) c.turned_to_end.new.journal c.turned_to_end.new.state.state c.answer.result
-    (answered_as the_texts c.args.state.now.state m.swap _ _ c.turned_to_end.new.journal c.turned_to_end.new.state.state c.in_ok-finished.finished c.answer.result (c.in_ok-finished.ensures.over m.swap m.name m.moves) c.answer.ensures)
+    later_as the_texts c.args.state.now.state m.swap (g.P.Plant.seen c.args.plant.now) (g.P.Plant.seen c.turned_to_end.new.plant) c.args.journal.now c.turned_to_end.new.journal c.turned_to_end.new.state.state c.answer.result
+    (answered_as the_texts c.args.state.now.state m.swap _ _ c.args.journal.now c.turned_to_end.new.journal c.turned_to_end.new.state.state c.in_ok-finished.finished c.answer.result (c.in_ok-finished.ensures.over m.swap m.name m.moves) c.answer.ensures)
     (λ h. absurd (answer_of_memory c.in_ok-finished.finished c.answer.result c.answer.ensures h))
 
 pub returns-in_err-finished-clause-stops : goal.returns-in_err-finished-clause-stops

@@ -14,6 +14,7 @@ finish-finished-requires g c =
         lab = c.args.state.now.state;
         swap = settling m.swap;
         before = _;
+        first = _;
         way = way_of the_texts c.args.state.now.state _ c.args.journal.now m.swap _ c.requires.work m.moves (c.in_ok-live.ensures m.swap m.name m.moves);
       };
     }
@@ -22,10 +23,10 @@ pub end_move-requires : goal.end_move-requires
 end_move-requires g c =
     let m = c.requires.moves in
     subst (λ end. CanEndBy c.args.state.now.state c.args.exp end) (sym c.ended.ensures)
-    (can_end_by the_texts c.args.state.now.state c.args.exp m.swap m.name _ _ c.finish-finished.new.journal c.requires.work.sane m.moves c.finish-finished.result
-    (c.finish-finished.ensures.ends the_texts c.args.state.now.state (settling m.swap) _ (way_of the_texts c.args.state.now.state _ c.args.journal.now m.swap _ c.requires.work m.moves (c.in_ok-live.ensures m.swap m.name m.moves))))
+    (can_end_by the_texts c.args.state.now.state c.args.exp m.swap m.name _ _ c.args.journal.now c.finish-finished.new.journal c.requires.work.sane m.moves c.finish-finished.result
+    (c.finish-finished.ensures.ends the_texts c.args.state.now.state (settling m.swap) _ _ (way_of the_texts c.args.state.now.state _ c.args.journal.now m.swap _ c.requires.work m.moves (c.in_ok-live.ensures m.swap m.name m.moves))))
 
 pub returns-clause-over : goal.returns-clause-over
 returns-clause-over g c = λ p name moves.
-    over_as the_texts c.args.state.now.state c.args.exp p name _ _ c.finish-finished.new.journal c.end_move.new.state.state c.finish-finished.result
-    (c.finish-finished.ensures.ends the_texts c.args.state.now.state (settling p) _ (way_of the_texts c.args.state.now.state _ c.args.journal.now p _ c.requires.work moves (c.in_ok-live.ensures p name moves))) (subst (λ end. EndsBy c.args.state.now.state c.args.exp end c.end_move.new.state.state) c.ended.ensures c.end_move.ensures)
+    over_as the_texts c.args.state.now.state c.args.exp p name _ _ c.args.journal.now c.finish-finished.new.journal c.end_move.new.state.state c.finish-finished.result
+    (c.finish-finished.ensures.ends the_texts c.args.state.now.state (settling p) _ _ (way_of the_texts c.args.state.now.state _ c.args.journal.now p _ c.requires.work moves (c.in_ok-live.ensures p name moves))) (subst (λ end. EndsBy c.args.state.now.state c.args.exp end c.end_move.new.state.state) c.ended.ensures c.end_move.ensures)
