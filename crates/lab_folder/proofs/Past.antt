@@ -11,7 +11,7 @@ use Rattle.records_model.specs.Works.{IsSound}
 use Rattle.lab_state.specs.Texts.{the_texts}
 use Rattle.lab_top.specs.Headline.{StaysSo, StillTold}
 use Rattle.lab_top.specs.Pieces.{Begun, planned_of, with_drill_if, with_pieces}
-use Rattle.plant_file.specs.Folders.{Held, past_of}
+use Rattle.folder.specs.Folders.{Held, past_of}
 use Rattle.plant_file.specs.Standing.{Keeps}
 use Rattle.lab_folder.specs.Left.{IsLeft}
 

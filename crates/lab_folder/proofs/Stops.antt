@@ -12,9 +12,10 @@ use Rattle.lab_model.specs.Sound as labs
 use Rattle.records_model.specs.Appends.{StandFor}
 use Rattle.records_model.specs.Works.{IsSound}
 use Rattle.lab_state.specs.Texts.{the_texts}
-use Rattle.plant_file.specs.Folders.{Held, Old}
-use Rattle.plant_file.specs.Lost.{LossesAreStops, newest}
+use Rattle.folder.specs.Folders.{Held, Old}
+use Rattle.folder.specs.Lost.{newest}
 use Rattle.plant_file.specs.Standing.{Keeps}
+use Rattle.plant_file.specs.Stops.{LossesAreStops}
 use Rattle.lab_folder.specs.Left.{LossesAreLeft}
 use Rattle.plant.specs.declared.step.Side.TheVariants.{A, B}
 

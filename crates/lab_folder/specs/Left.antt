@@ -2,9 +2,10 @@
 use Rattle.std.specs.Prelude.{ℕ, List}
 use Rattle.records_model.specs.Works.{IsSound}
 use Rattle.lab_state.specs.Texts.{the_texts}
-use Rattle.plant_file.specs.Folders.{Held, Old}
-use Rattle.plant_file.specs.Lost.{IsStop, Lost}
+use Rattle.folder.specs.Folders.{Held, Old}
+use Rattle.folder.specs.Lost.{Lost}
 use Rattle.plant_file.specs.Standing.{Keeps}
+use Rattle.plant_file.specs.Stops.{IsStop}
 
 -- A FOLDER AS A RUN LEAVES IT, and finds it: its text stands for what the devices hold, and its past is sound
 pub record IsLeft (h : Held) : Type 0 where

@@ -5,9 +5,10 @@ ghost use Rattle.lab_model.specs.Isolated.{Isolated};
 ghost use Rattle.lab_top.specs.Headline.{AtEachMoment};
 ghost use Rattle.lab_folder.specs.Left.{IsLeft};
 
+use folder::Folder;
 use lab_io::{Sink, Source};
 use lab_top::{Status, labctl};
-use plant_file::{Folder, FolderLab};
+use plant_file::FolderLab;
 use std::alloc::Global;
 
 /// The end of a run, and its folder.

@@ -1,4 +1,4 @@
-ghost use Rattle.plant_file.specs.Lost.{blank};
+ghost use Rattle.folder.specs.Lost.{blank};
 ghost use Rattle.lab_folder.specs.Left.{IsLeft, LossesAreLeft};
 
 use lab_top::runs;

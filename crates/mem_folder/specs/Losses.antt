@@ -3,8 +3,8 @@ use Rattle.std.specs.Prelude.{◌≡◌, ℕ, [], ◌∷◌, take, drop}
 use Rattle.plant.specs.Disks.{disk}
 use Rattle.plant.specs.declared.drill.Pick.{Pick}
 use Rattle.plant.specs.declared.step.Side.TheVariants.{A, B}
-use Rattle.plant_file.specs.Folders.{Held, Old}
-use Rattle.plant_file.specs.Lost.{Lost, newest}
+use Rattle.folder.specs.Folders.{Held, Old}
+use Rattle.folder.specs.Lost.{Lost, newest}
 use Rattle.plant_mem.specs.Picks.{left_by}
 
 -- the text that stands so many behind the newest one

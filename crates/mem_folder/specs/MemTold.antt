@@ -4,7 +4,7 @@ use Rattle.http_server.specs.declared.log.Log.{Log}
 use Rattle.plant.specs.declared.moment.Faults.{Faults}
 use Rattle.plant.specs.declared.moment.Moment.{Moment}
 use Rattle.plant.specs.declared.step.Step.{Step}
-use Rattle.plant_file.specs.Folders.{Held, Old}
+use Rattle.folder.specs.Folders.{Held, Old}
 use Rattle.mem_folder.specs.MemFolders.{trace_of}
 use Rattle.mem_folder.specs.declared.mem_folder.MemFolder.{MemFolder}
 use Rattle.mem_folder.specs.declared.mem_folder.OldText.{OldText}

@@ -47,7 +47,7 @@ pub struct MemFolder {
 
 impl MemFolder {
     ghost use Rattle.std.specs.Prelude.{◌≡◌, IfOk, length};
-    ghost use Rattle.plant_file.specs.Lost.{blank};
+    ghost use Rattle.folder.specs.Lost.{blank};
     ghost use Rattle.mem_folder.specs.MemTold.{held_of};
 
     /// An empty folder.

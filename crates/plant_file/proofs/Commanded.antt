@@ -19,7 +19,7 @@ use Rattle.plant.specs.declared.device.Fault.{Fault}
 use Rattle.plant.specs.declared.device.Fault.TheVariants.{Failed, Stopped}
 use Rattle.plant_file.specs.declared.entry.Entry.{Entry}
 use Rattle.plant_file.specs.Entries.{answer_of}
-use Rattle.plant_file.specs.Folders.{Held, Old, past_of, more, put_text, with_steps, Put, Sent, IsSent}
+use Rattle.folder.specs.Folders.{Held, Old, past_of, more, put_text, with_steps, Put, Sent, IsSent}
 use Rattle.plant_file.specs.Holding.{world_in}
 use Rattle.plant_file.specs.Lines.{tables_of_text}
 use Rattle.plant_file.specs.Standing.{Stands, IsKnown, is_beside, Fits, IsOld, OldsFit, AreOf, IsObeyed, Keeps, entries_or}
@@ -125,8 +125,8 @@ keeps_now : (h : Held) → Keeps h → Keeps (record h { older = [] })
 keeps_now h keeps = record { fits = record { reads = keeps.fits.reads; known = keeps.fits.known }; olds = λ old has. absurd has }
 
 keeps_sent : (h now : Held) (op : DeviceOp) (answer : Answer) (text : List ℕ) (result : Result (Unit {0}) Fault) → IsMade op answer text h → Sent op answer text false result h now → Keeps h → Keeps now
-keeps_sent h now op answer text result made (inl put) keeps = keeps_by h now op answer text result made put keeps
-keeps_sent h now op answer text result made (inr put) keeps = keeps_by (record h { older = [] }) now op answer text result (made_durable op answer text h made) put (keeps_now h keeps)
+keeps_sent h now op answer text result made (false, put) keeps = keeps_by h now op answer text result made put keeps
+keeps_sent h now op answer text result made (true, put) keeps = keeps_by (record h { older = [] }) now op answer text result (made_durable op answer text h made) put (keeps_now h keeps)
 
 -- THE FOLDER BEHIND A COMMAND THAT WAS SENT
 pub fits_sent : (op : DeviceOp) (answer : Answer) (text : List ℕ) (stopped : Bool) (result : Result (Unit {0}) Fault) (old new : Option Held) → IsFalse stopped → ForSome old (IsMade op answer text)
@@ -139,8 +139,8 @@ fits_sent op answer text false result (Some h) new runs made sent keeps = λ now
 
 -- its text, where it is done
 text_put : (op : DeviceOp) (answer : Answer) (text : List ℕ) (h now : Held) → Sent op answer text false (Ok tt) h now → now.text ≡ text
-text_put op answer text h now (inl put) = ap (λ (x : Held). x.text) put
-text_put op answer text h now (inr put) = ap (λ (x : Held). x.text) put
+text_put op answer text h now (false, put) = ap (λ (x : Held). x.text) put
+text_put op answer text h now (true, put) = ap (λ (x : Held). x.text) put
 
 pub text_sent : (op : DeviceOp) (answer : Answer) (text : List ℕ) (stopped : Bool) (old new : Option Held) (tables : List Entry) → IsFalse stopped → tables_of_text text ≡ Ok tables → IsSent op answer text stopped (Ok tt) old new → ForSome new (AreOf tables)
 text_sent op answer text true old new tables runs is sent = absurd (cc runs)
@@ -162,8 +162,8 @@ past_nil : (past : plants.Told) → Some past ≡ plants.with_steps (Some past) 
 past_nil past = ap (λ (l : List Event). let o : Option plants.Told = Some (record past { trace = l }) in o) (sym (append-nil past.trace))
 
 done_put : (op : DeviceOp) (answer : Answer) (text : List ℕ) (h now : Held) (new : Option Held) → FitsCommand op answer → new ≡ Some now → Sent op answer text false (Ok tt) h now → Steps op false (Ok answer) (Some h) new
-done_put op answer text h now new fits is (inl put) = (Did op true (Ok answer) ∷ [], steps_one h now new true text (Did op true (Ok answer) ∷ []) is put, (fits, refl))
-done_put op answer text h now new fits is (inr put) = (Did op true (Ok answer) ∷ [], steps_one (record h { older = [] }) now new true text (Did op true (Ok answer) ∷ []) is put, (fits, refl))
+done_put op answer text h now new fits is (false, put) = (Did op true (Ok answer) ∷ [], steps_one h now new true text (Did op true (Ok answer) ∷ []) is put, (fits, refl))
+done_put op answer text h now new fits is (true, put) = (Did op true (Ok answer) ∷ [], steps_one (record h { older = [] }) now new true text (Did op true (Ok answer) ∷ []) is put, (fits, refl))
 
 pub steps_done : (op : DeviceOp) (answer : Answer) (text : List ℕ) (stopped : Bool) (old new : Option Held) → IsFalse stopped → FitsCommand op answer → IsSent op answer text stopped (Ok tt) old new → Steps op stopped (Ok answer) old new
 steps_done op answer text true old new runs fits sent = absurd (cc runs)
@@ -180,8 +180,8 @@ failed_put op answer text Stopped h now new is (inr did) =
     (event ∷ [], steps_one h now new did.0 text (event ∷ []) is did.1, inr (did.0, refl))
 
 failed_sent : (op : DeviceOp) (answer : Answer) (text : List ℕ) (fault : Fault) (h now : Held) (new : Option Held) → new ≡ Some now → Sent op answer text false (Err fault) h now → Steps op false (Err fault) (Some h) new
-failed_sent op answer text fault h now new is (inl put) = failed_put op answer text fault h now new is put
-failed_sent op answer text fault h now new is (inr put) = let steps = failed_put op answer text fault (record h { older = [] }) now new is put in (steps.0, steps.1, steps.2)
+failed_sent op answer text fault h now new is (false, put) = failed_put op answer text fault h now new is put
+failed_sent op answer text fault h now new is (true, put) = let steps = failed_put op answer text fault (record h { older = [] }) now new is put in (steps.0, steps.1, steps.2)
 
 pub steps_failed : (op : DeviceOp) (answer : Answer) (text : List ℕ) (stopped : Bool) (fault : Fault) (old new : Option Held) → IsFalse stopped → IsSent op answer text stopped (Err fault) old new → Steps op stopped (Err fault) old new
 steps_failed op answer text true fault old new runs sent = absurd (cc runs)

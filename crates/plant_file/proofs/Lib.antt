@@ -1,6 +1,5 @@
 mod Commanded
 mod EntryAgain
-mod Filing
 mod Finds
 mod Fitting
 mod KeptLaws

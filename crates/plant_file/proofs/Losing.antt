@@ -7,10 +7,11 @@ use Rattle.lab_base.specs.Lists.{Has}
 use Rattle.plant.specs.Disks.{ArePossible}
 use Rattle.plant.specs.Events.{Event, Restarted}
 use Rattle.plant.specs.Worlds.{World, blank, world_after, world_of}
-use Rattle.plant_file.specs.Folders.{Held, Old}
-use Rattle.plant_file.specs.Lost.{newest, Lost, IsStop, LossesAreStops}
-use Rattle.plant_file.specs.Lost as folders
+use Rattle.folder.specs.Folders.{Held, Old}
+use Rattle.folder.specs.Lost.{newest, Lost}
+use Rattle.folder.specs.Lost as folders
 use Rattle.plant_file.specs.Standing.{Stands, IsOld, Keeps, is_beside}
+use Rattle.plant_file.specs.Stops.{IsStop, LossesAreStops}
 
 own : (h : Held) → Keeps h → IsOld h (newest h)
 own h keeps =

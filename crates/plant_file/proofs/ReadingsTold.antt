@@ -6,7 +6,7 @@ use Rattle.lab_base.specs.declared.memory.Memory.{Memory}
 use Rattle.plant.specs.Events.{Event}
 use Rattle.plant.specs.Readings.{unread}
 use Rattle.plant.specs.declared.pipe_row.ReadFailed.{ReadFailed}
-use Rattle.plant_file.specs.Folders.{Held, with_steps}
+use Rattle.folder.specs.Folders.{Held, with_steps}
 
 pub steps_none : (held : Option Held) → held ≡ with_steps held []
 steps_none None = refl

@@ -23,7 +23,7 @@ use Rattle.plant.specs.declared.step.Side.TheVariants.{A, B}
 use Rattle.plant.specs.Readings.{unread}
 use Rattle.plant.specs.declared.pipe_row.ReadFailed.{ReadFailed}
 use Rattle.plant_file.specs.declared.entry.Entry.{Entry}
-use Rattle.plant_file.specs.Folders.{Held, past_of, more, with_steps, with_mark, made_sure, IsDurable}
+use Rattle.folder.specs.Folders.{Held, past_of, more, with_steps, with_mark, made_sure, IsDurable}
 use Rattle.plant_file.specs.Lines.{tables_of_text}
 use Rattle.plant_file.specs.Standing.{Stands, is_beside, Fits, OldsFit, AreOf, Keeps, KeepsTables}
 

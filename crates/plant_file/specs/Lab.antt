@@ -4,7 +4,7 @@ use Rattle.plant.specs.Disks.{disk, ArePossible}
 use Rattle.plant.specs.Seen.{Seen}
 use Rattle.plant.specs.declared.moment.Faults.{Faults}
 use Rattle.plant.specs.declared.step.Side.TheVariants.{A, B}
-use Rattle.plant_file.specs.Folders.{Held, past_of}
+use Rattle.folder.specs.Folders.{Held, past_of}
 
 abbrev pub seen_by : Option Held → Bool → Faults → Seen
 seen_by held stopped faults = record { told = past_of held; faults = faults; stopped = stopped }

@@ -1,14 +1,11 @@
 pub mod Again
 pub mod Entries
-pub mod Files
-pub mod Folders
 pub mod Holding
 pub mod Kept
 pub mod Lab
 pub mod Lines
-pub mod Lost
 pub mod Marks
-pub mod Names
 pub mod OnDevices
 pub mod Printable
 pub mod Standing
+pub mod Stops

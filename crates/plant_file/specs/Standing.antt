@@ -12,7 +12,7 @@ use Rattle.plant.specs.declared.device.Answer.{Answer}
 use Rattle.plant.specs.declared.device.DeviceOp.{DeviceOp}
 use Rattle.plant_file.specs.declared.entry.Entry.{Entry}
 use Rattle.plant_file.specs.Entries.{after, answer_of}
-use Rattle.plant_file.specs.Folders.{Held, Old}
+use Rattle.folder.specs.Folders.{Held, Old}
 use Rattle.plant_file.specs.Holding.{world_in}
 use Rattle.plant_file.specs.Lines.{tables_of_text}
 

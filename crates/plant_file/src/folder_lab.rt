@@ -1,18 +1,17 @@
 ghost use Rattle.std.specs.Prelude.{◌≡◌, true, IfOk};
-ghost use Rattle.plant_file.specs.Names.{names_in};
+ghost use Rattle.folder.specs.Names.{names_in};
 ghost use Rattle.std.specs.Option.{ForSome};
-ghost use Rattle.plant_file.specs.Folders.{IsDurable};
+ghost use Rattle.folder.specs.Folders.{IsDurable};
 ghost use Rattle.plant_file.specs.Standing.{Keeps, AreOf};
 
-use crate::folder::Folder;
-use crate::named_folder::NamedFolder;
-use crate::std_folder::StdFolder;
 use crate::tables::Tables;
+use folder::{Folder, NamedFolder};
 use lab_base::{Memory, TextFault};
 use plant::Faults;
 use std::alloc::{AllocGlobal, Global};
 use std::fs::File;
 use std::rt::Files;
+use std_folder::StdFolder;
 
 /// A plant in the files of a folder. It takes no drills. It tells its past where the folder does.
 #[derive(Drop)]
@@ -58,7 +57,7 @@ impl<R: Files<File = File> + AllocGlobal + Drop> FolderLab<NamedFolder<StdFolder
     pub fn refused(&self) -> Option<TextFault>
         ensures { result ≡ self.now.folder.refused }
     {
-        self.folder.refused
+        self.folder.text_fault()
     }
 }
 

@@ -1,7 +1,7 @@
 use crate::answers::of_reading;
-use crate::folder::Folder;
 use crate::folder_lab::FolderLab;
 use crate::readings::{read_node, read_pipe, read_row};
+use folder::Folder;
 use lab_base::{Name, VlanId};
 use plant::{NodeRow, PipeRow, ReadFailed, Tables};
 

@@ -1,7 +1,8 @@
 ghost use Rattle.plant_file.specs.Again.{TablesAgain};
 ghost use Rattle.plant_file.specs.Holding.{HoldWorlds};
-ghost use Rattle.plant_file.specs.Lost.{LossesAreStops, blank};
+ghost use Rattle.folder.specs.Lost.{blank};
 ghost use Rattle.plant_file.specs.Standing.{Keeps};
+ghost use Rattle.plant_file.specs.Stops.{LossesAreStops};
 
 /// The text of tables is read back as them.
 pub fn tables_are_read_back()

@@ -4,13 +4,13 @@ ghost use Rattle.std.specs.Option.{ForSome};
 ghost use Rattle.std.specs.Result.{ForOk};
 ghost use Rattle.plant.specs.Worlds.{world_of};
 ghost use Rattle.plant.specs.Readings.{unread, TellsRow, TellsNode, TellsPipe, RowsFit, PipesFit};
-ghost use Rattle.plant_file.specs.Folders.{with_steps};
+ghost use Rattle.folder.specs.Folders.{with_steps};
 ghost use Rattle.plant_file.specs.Standing.{AreOf, Keeps};
 
-use crate::folder::Folder;
 use crate::sending::take_tables;
 use crate::tables::Tables;
 use crate::tells::{node_of, pipe_of, row_of};
+use folder::Folder;
 use lab_base::{Memory, Name, VlanId};
 use plant::{NodeRow, PipeRow, ReadFailed};
 use std::alloc::Global;

@@ -6,11 +6,11 @@ ghost use Rattle.mem_folder.specs.MemTold.{held_of};
 
 use crate::run::wanting;
 use anyhow::bail;
+use folder::Folder;
 use lab_folder::{After, folders, run_over};
 use lab_io::{MemSink, MemSource};
 use mem_folder::MemFolder;
 use plant::Pick;
-use plant_file::Folder;
 use std::alloc::Global;
 use std::fmt::Write;
 use std::str;

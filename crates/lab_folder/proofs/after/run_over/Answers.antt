@@ -5,7 +5,7 @@ use Rattle.lab_model.specs.Cabled.{Cabled}
 use Rattle.lab_model.specs.Holding.{Holding}
 use Rattle.lab_model.specs.Isolated.{Isolated}
 use Rattle.lab_top.specs.Headline.{AtEachMoment}
-use Rattle.plant_file.specs.Folders.{past_of}
+use Rattle.folder.specs.Folders.{past_of}
 use Rattle.plant_file.specs.Lab.{seen_by}
 use Rattle.lab_folder.proofs.Past.{left_after, so_after}
 use Rattle.lab_folder.proofs.after.run_over.Goals as goal

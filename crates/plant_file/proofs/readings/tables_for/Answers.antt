@@ -1,6 +1,6 @@
 use Rattle.std.proofs.Common.{[], ◌∷◌, Option, ap, ◌∙◌}
 use Rattle.plant.specs.Events.{Unread}
-use Rattle.plant_file.specs.Folders.{Held, with_steps}
+use Rattle.folder.specs.Folders.{Held, with_steps}
 use Rattle.plant_file.proofs.ReadingsTold.{told_still}
 use Rattle.plant_file.proofs.readings.tables_for.Goals as goal
 

@@ -1,7 +1,7 @@
 use Rattle.std.proofs.Common.{◌∙◌, ap, Err, Option}
 use Rattle.std.proofs.lemmas.Result.{err_from_is_err_and}
 use Rattle.plant.specs.DiskCalls.{missed}
-use Rattle.plant_file.specs.Folders.{Held, with_steps}
+use Rattle.folder.specs.Folders.{Held, with_steps}
 use Rattle.plant_file.proofs.Telling.{past_some_steps, keeps_missed, keeps_sure_steps, sync_still, refused_sync}
 use Rattle.plant_file.proofs.ready.sync.Goals as goal
 

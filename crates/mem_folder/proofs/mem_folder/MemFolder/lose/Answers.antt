@@ -2,7 +2,7 @@ use Rattle.std.proofs.Common.{◌≡◌, ◌∷◌, [], List, refl, ap, subst, d
 use Rattle.plant.specs.Disks.{Disk, disk, IsImage}
 use Rattle.plant.specs.Events.{Event}
 use Rattle.plant.specs.declared.step.Side.TheVariants.{A, B}
-use Rattle.plant_file.specs.Lost.{newest}
+use Rattle.folder.specs.Lost.{newest}
 use Rattle.plant_mem.specs.Picks.{left_by}
 use Rattle.mem_folder.specs.MemFolders.{trace_of}
 use Rattle.mem_folder.specs.MemTold.{held_of, old_of}

@@ -1,0 +1,4 @@
+pub mod Files
+pub mod Folders
+pub mod Lost
+pub mod Names
