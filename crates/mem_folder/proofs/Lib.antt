@@ -1,3 +1,4 @@
 mod Back
+mod Left
 mod Pasts
 mod Written

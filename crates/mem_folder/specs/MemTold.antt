@@ -4,6 +4,8 @@ use Rattle.http_server.specs.declared.log.Log.{Log}
 use Rattle.plant.specs.declared.moment.Faults.{Faults}
 use Rattle.plant.specs.declared.moment.Moment.{Moment}
 use Rattle.plant.specs.declared.step.Step.{Step}
+use Rattle.folder.specs.Files.{Filed}
+use Rattle.folder.specs.Files as folders
 use Rattle.folder.specs.Folders.{Held, Old}
 use Rattle.mem_folder.specs.MemFolders.{trace_of}
 use Rattle.mem_folder.specs.declared.mem_folder.MemFolder.{MemFolder}
@@ -18,12 +20,15 @@ moment_of mark = record { at = length (trace_of mark.1.items); faults = mark.0 }
 abbrev pub old_of : OldText → Old
 old_of old = record { text = old.text.items; at = length (trace_of old.steps.items) }
 
-abbrev pub held_of : MemFolder → Held
-held_of m = record {
+abbrev pub filed_of : MemFolder → Filed
+filed_of m = record {
   past = record { trace = trace_of m.steps.items; marks = map moment_of m.marks.items; drills = [] };
-  text = m.text.items;
+  files = m.texts;
   older = map old_of m.olds.items;
 }
 
-abbrev pub told_of : MemFolder → Option Held
-told_of m = Some (held_of m)
+abbrev pub told_of : MemFolder → Option Filed
+told_of m = Some (filed_of m)
+
+abbrev pub held_of : MemFolder → Held
+held_of m = folders.held_of (filed_of m)

@@ -5,6 +5,7 @@ ghost use Rattle.plant_mem.specs.Faces.{disk_of};
 ghost use Rattle.mem_folder.specs.MemFolders.{trace_of, AreBegun};
 
 use crate::sides::Sides;
+use crate::texts::Texts;
 use http_server::Log;
 use lab_base::Memory;
 use plant::{Faults, Step};
@@ -26,14 +27,15 @@ pub(crate) struct Stop {
     pub(crate) is_done: bool,
 }
 
-/// A folder in memory. A run over it is cut off as by a kill where its user plans a stop, and it may lose power then.
+/// The files of a folder in memory. A run over it is cut off as by a kill where its user plans a stop, and it may lose power then.
 ///
-/// Its calls that change something count up to a stop: writes, syncs and cuts of sides, texts that are put, and syncs of the text.
+/// Its calls that change something count up to a stop: writes, syncs and cuts of sides, texts that take the name of the tables, and syncs of the
+/// text. A call that stops behind its effect leaves a text that was to take the name without it.
 #[derive(Drop)]
 pub struct MemFolder {
     pub(crate) alloc: Global,
     pub(crate) sides: Sides,
-    pub(crate) text: Vec<u8>,
+    pub(crate) texts: Texts,
     /// The newest stands first.
     pub(crate) olds: Vec<OldText>,
     pub(crate) steps: Log<Step, Sides>,
@@ -57,7 +59,7 @@ impl MemFolder {
         Ok(MemFolder {
             alloc,
             sides: Sides::new(alloc)?,
-            text: Vec::new(alloc),
+            texts: Texts::none(),
             olds: Vec::new(alloc),
             steps: Log::new(),
             marks: Log::new(),

@@ -6,7 +6,7 @@ ghost use Rattle.mem_folder.specs.MemTold.{held_of};
 
 use crate::run::wanting;
 use anyhow::bail;
-use folder::Folder;
+use folder::{Folder, FolderFiles, NamedFolder};
 use lab_folder::{After, folders, run_over};
 use lab_io::{MemSink, MemSource};
 use mem_folder::MemFolder;
@@ -57,7 +57,9 @@ fn run_on(alloc: Global, script: &str, folder: MemFolder) -> anyhow::Result<Left
     let words = Vec::new(alloc);
     let mut source = MemSource::new(alloc, script.as_bytes(), &[]).map_err(wanting)?;
     let mut sink = MemSink::new(alloc, 65_536, &[]).map_err(wanting)?;
-    let After { folder, .. } = run_over(alloc, &words, &mut source, &mut sink, folder);
+    let named = NamedFolder::over(alloc, folder);
+    let After { folder, .. } = run_over(alloc, &words, &mut source, &mut sink, named);
+    let folder = folder.into_files();
     let output = String::from_str(alloc, str::from_utf8(sink.bytes())?)?;
     Ok(Left { output, folder })
 }
@@ -130,8 +132,9 @@ fn in_order(alloc: Global, text: &str) -> anyhow::Result<String> {
 }
 
 /// The text of the tables, its lines in order.
-fn tables_of(alloc: Global, folder: &mut MemFolder) -> anyhow::Result<String> {
-    match folder.text() {
+fn tables_of(alloc: Global, folder: MemFolder) -> anyhow::Result<String> {
+    let mut named = NamedFolder::over(alloc, folder);
+    match named.text() {
         Ok(text) => in_order(alloc, str::from_utf8(&text)?),
         Err(_) => bail!("no text"),
     }
@@ -142,7 +145,7 @@ fn found_in(alloc: Global, folder: MemFolder) -> anyhow::Result<String>
     requires { IsLeft (held_of folder) }
 {
     let first = run_on(alloc, OPENING, folder)?;
-    let mut second = run_on(alloc, OPENING, first.folder)?;
+    let second = run_on(alloc, OPENING, first.folder)?;
     if second.output != first.output {
         bail!(
             "a second opening finds\n{}behind\n{}",
@@ -150,7 +153,7 @@ fn found_in(alloc: Global, folder: MemFolder) -> anyhow::Result<String>
             first.output
         );
     }
-    let tables = tables_of(alloc, &mut second.folder)?;
+    let tables = tables_of(alloc, second.folder)?;
     match first.output.strip_suffix("audit 0\n") {
         Some(told) => Ok(format!(in alloc; "{told}{tables}")?),
         None => bail!("an opening finds\n{}", first.output),

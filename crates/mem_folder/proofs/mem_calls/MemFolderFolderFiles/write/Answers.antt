@@ -5,7 +5,7 @@ use Rattle.plant.specs.declared.step.Side.TheVariants.{A, B}
 use Rattle.plant_mem.specs.Faces.{disk_of}
 use Rattle.mem_folder.specs.MemFolders.{trace_of, AreBegun}
 use Rattle.mem_folder.proofs.Pasts.{begun_more, disk_more}
-use Rattle.mem_folder.proofs.mem_calls.MemFolderFolder.write.Goals as goal
+use Rattle.mem_folder.proofs.mem_calls.MemFolderFolderFiles.write.Goals as goal
 
 pub invariant_of-self : goal.invariant_of-self
 invariant_of-self c =
