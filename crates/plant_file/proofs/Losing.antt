@@ -11,7 +11,7 @@ use Rattle.folder.specs.Folders.{Held, Old}
 use Rattle.folder.specs.Lost.{newest, Lost}
 use Rattle.folder.specs.Lost as folders
 use Rattle.plant_file.specs.Standing.{Stands, IsOld, Keeps, is_beside}
-use Rattle.plant_file.specs.Stops.{IsStop, LossesAreStops}
+use Rattle.plant_file.specs.Stops.{LossesAreStops}
 
 own : (h : Held) → Keeps h → IsOld h (newest h)
 own h keeps =
