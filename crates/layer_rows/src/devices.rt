@@ -19,21 +19,37 @@ fn of_port(joins: bool, words: &mut Words<'_>) -> Result<DeviceOp, Untold> {
     })
 }
 
-/// A command that shapes what goes between two interfaces of a node.
+/// Rates, of which the last two may be left out.
+fn rates(words: &mut Words<'_>) -> Result<Rates, Untold> {
+    let kbps = words.number()?;
+    let (mut micros, mut ppm) = (0, 0);
+    if !words.rest().is_empty() {
+        micros = words.number()?;
+        ppm = words.number()?;
+    }
+    Ok(Rates {
+        kbps: u64::from(kbps),
+        micros,
+        ppm,
+    })
+}
+
+/// A command that shapes what goes between two interfaces of a node. Where it has no other rates for the way back, they are the same.
 fn of_pipe(node: Name, words: &mut Words<'_>) -> Result<DeviceOp, Untold> {
     let pipe = words.short()?;
-    let rates = Rates {
-        kbps: u64::from(words.number()?),
-        micros: 0,
-        ppm: 0,
+    let there = rates(words)?;
+    let back = if words.rest().is_empty() {
+        there
+    } else {
+        rates(words)?
     };
     Ok(DeviceOp::Shape {
         node,
         pipe,
         from: Name::read(b"eth0")?,
         to: Name::read(b"eth1")?,
-        there: rates,
-        back: rates,
+        there,
+        back,
     })
 }
 
@@ -80,17 +96,29 @@ fn push_node(out: &mut String, plant: &MemLab, node: Name) -> Result<(), AllocEr
     write!(out, "{} {}", boot_word(row.state), row.pipes)
 }
 
-/// Does an action with devices, and adds what is told of it, if it is one.
-pub fn told(
+/// Sends a command, and adds the answer, if it is one.
+pub fn obeyed<P: Plant>(
     out: &mut String,
-    plant: &mut MemLab,
+    plant: &mut P,
     kind: &str,
     words: &mut Words<'_>,
 ) -> Result<bool, Untold> {
-    if let Some(op) = op_of(kind, words)? {
-        out.push_str(answer_word(plant.command(op)))?;
-        return Ok(true);
+    match op_of(kind, words)? {
+        Some(op) => {
+            out.push_str(answer_word(plant.command(op)))?;
+            Ok(true)
+        }
+        None => Ok(false),
     }
+}
+
+/// Adds what a device holds, if that is asked.
+pub fn told(
+    out: &mut String,
+    plant: &MemLab,
+    kind: &str,
+    words: &mut Words<'_>,
+) -> Result<bool, Untold> {
     match kind {
         "row" => push_row(out, plant, words)?,
         "node" => push_node(out, plant, words.name()?)?,

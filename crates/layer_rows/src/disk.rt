@@ -8,7 +8,7 @@ use std::alloc::{AllocError, Global};
 use std::fmt::Write;
 
 /// Adds how long a side is, or the fault.
-fn push_length(out: &mut String, plant: &mut MemLab, side: Side) -> Result<(), AllocError> {
+fn push_length<P: Plant>(out: &mut String, plant: &mut P, side: Side) -> Result<(), AllocError> {
     match plant.length(side) {
         Ok(size) => write!(out, "{size}"),
         Err(fault) => out.push_str(fault_word(fault)),
@@ -38,7 +38,37 @@ fn cut(plant: &mut MemLab, words: &mut Words<'_>) -> Result<&'static str, Untold
     Ok(done_word(plant.cut(side, size)))
 }
 
-/// Does an action with the disk, and adds what is told of it, if it is one.
+/// Starts a stopped plant again; tells whether it was stopped.
+fn restart(plant: &mut MemLab) -> Result<&'static str, Untold> {
+    if !plant.stopped() {
+        return Ok("not stopped");
+    }
+    plant.restart()?;
+    Ok("started")
+}
+
+/// Tells how long a side is, makes it durable, or marks a moment; or tells whether the plant takes drills, or is stopped.
+pub fn told_of_side<P: Plant>(
+    out: &mut String,
+    plant: &mut P,
+    kind: &str,
+    words: &mut Words<'_>,
+) -> Result<bool, Untold> {
+    match kind {
+        "length" => push_length(out, plant, words.side()?)?,
+        "sync" => out.push_str(done_word(plant.sync(words.side()?)))?,
+        "drills" => out.push_str(yes_or_no(plant.drills()))?,
+        "stopped" => out.push_str(yes_or_no(plant.stopped()))?,
+        "mark" => {
+            plant.mark()?;
+            out.push_str("marked")?;
+        }
+        _ => return Ok(false),
+    }
+    Ok(true)
+}
+
+/// Does another action with the disk, and adds what is told of it, if it is one; or the number of steps, or of the bytes that these name.
 pub fn told(
     out: &mut String,
     alloc: Global,
@@ -47,28 +77,12 @@ pub fn told(
     words: &mut Words<'_>,
 ) -> Result<bool, Untold> {
     match kind {
-        "length" => push_length(out, plant, words.side()?)?,
         "read" => push_spelled(out, &read(alloc, plant, words.side()?)?)?,
         "write" => out.push_str(write(alloc, plant, words)?)?,
-        "sync" => out.push_str(done_word(plant.sync(words.side()?)))?,
         "cut" => out.push_str(cut(plant, words)?)?,
-        _ => return Ok(false),
-    }
-    Ok(true)
-}
-
-/// Adds the output of an action about the plant itself, if it is one.
-/// It is the number of steps, the number of bytes that these name, whether it takes drills, or whether it is stopped.
-pub fn told_of_plant(out: &mut String, plant: &mut MemLab, kind: &str) -> Result<bool, Untold> {
-    match kind {
+        "restart" => out.push_str(restart(plant)?)?,
         "steps" => write!(out, "{}", plant.trace().len())?,
         "bytes" => write!(out, "{}", plant.bytes().len())?,
-        "drills" => out.push_str(yes_or_no(plant.drills()))?,
-        "stopped" => out.push_str(yes_or_no(plant.stopped()))?,
-        "mark" => {
-            plant.mark()?;
-            out.push_str("marked")?;
-        }
         _ => return Ok(false),
     }
     Ok(true)

@@ -1,7 +1,6 @@
 //! Drills, and what a stop leaves behind.
-use lab_base::{Kind, Name};
+use lab_base::{Kind, Memory, Name};
 use plant::{Drill, DrillFault, How, Pick, Plant};
-use plant_mem::MemLab;
 use row_words::{Untold, Words};
 
 fn how(words: &mut Words<'_>) -> Result<How, Untold> {
@@ -45,31 +44,24 @@ fn stop(words: &mut Words<'_>) -> Result<Drill, Untold> {
     })
 }
 
-fn plan(plant: &mut MemLab, drill: Drill) -> Result<&'static str, DrillFault> {
-    plant.drill(drill)?;
-    Ok("planned")
-}
-
-/// Starts a stopped plant again; tells whether it was stopped.
-fn restart(plant: &mut MemLab) -> Result<&'static str, Untold> {
-    if !plant.stopped() {
-        return Ok("not stopped");
+fn plan<P: Plant>(plant: &mut P, drill: Drill) -> Result<&'static str, Memory> {
+    match plant.drill(drill) {
+        Ok(()) => Ok("planned"),
+        Err(DrillFault::CannotPlan) => Ok("no drills"),
+        Err(DrillFault::Memory) => Err(Memory),
     }
-    plant.restart()?;
-    Ok("started")
 }
 
-/// Does an action with drills, and adds what is told of it, if it is one.
-pub fn told(
+/// Plans a drill, and adds what is told of it, if it is one.
+pub fn told<P: Plant>(
     out: &mut String,
-    plant: &mut MemLab,
+    plant: &mut P,
     kind: &str,
     words: &mut Words<'_>,
 ) -> Result<bool, Untold> {
     match kind {
         "fail" => out.push_str(plan(plant, failure(words)?)?)?,
         "stop" => out.push_str(plan(plant, stop(words)?)?)?,
-        "restart" => out.push_str(restart(plant)?)?,
         _ => return Ok(false),
     }
     Ok(true)

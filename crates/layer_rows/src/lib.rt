@@ -3,6 +3,7 @@
 #![tactic(auto)]
 
 mod answers;
+mod boots;
 mod bytes;
 mod devices;
 mod disk;
@@ -15,4 +16,6 @@ mod records;
 mod row;
 mod swaps;
 
-pub use row::told;
+pub use answers::{boot_word, done_word, letters, yes_or_no};
+pub use bytes::{bytes_of, push_spelled};
+pub use row::{told, told_of_plant};

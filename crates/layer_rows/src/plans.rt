@@ -48,48 +48,27 @@ fn add_all(commands: &mut Commands, text: &str) -> Result<(), Untold> {
     Ok(())
 }
 
-/// The commands of a text.
-fn commands_of(alloc: Global, text: &str) -> Result<Commands, Untold> {
-    let mut commands = nothing(alloc);
-    match add_all(&mut commands, text) {
-        Ok(()) => Ok(commands),
-        Err(untold) => {
-            drop(commands);
-            Err(untold)
-        }
+/// Adds the commands of a swap-out, or those of a swap-in or a change, with its undo.
+fn add_ops(ops: &mut Ops, out: bool) -> Result<(), Untold> {
+    if out {
+        return add_all(&mut ops.commands, CLEARING);
     }
-}
-
-/// The commands of a swap-out.
-fn ops_out(alloc: Global) -> Result<Ops, Untold> {
-    Ok(Ops {
-        commands: commands_of(alloc, CLEARING)?,
-        undo: nothing(alloc),
-        inside: false,
-    })
-}
-
-/// The commands of a swap-in or a change, with its undo.
-fn ops_in(alloc: Global, inside: bool) -> Result<Ops, Untold> {
-    let commands = commands_of(alloc, BUILDING)?;
-    match commands_of(alloc, CLEARING) {
-        Ok(undo) => Ok(Ops {
-            commands,
-            undo,
-            inside,
-        }),
-        Err(untold) => {
-            drop(commands);
-            Err(untold)
-        }
-    }
+    add_all(&mut ops.commands, BUILDING)?;
+    add_all(&mut ops.undo, CLEARING)
 }
 
 /// The commands of a swap-out, or of a swap-in or a change whose undo leads back into the lab or out of it.
 pub fn ops_of(alloc: Global, out: bool, inside: bool) -> Result<Ops, Untold> {
-    if out {
-        ops_out(alloc)
-    } else {
-        ops_in(alloc, inside)
+    let mut ops = Ops {
+        commands: nothing(alloc),
+        undo: nothing(alloc),
+        inside,
+    };
+    match add_ops(&mut ops, out) {
+        Ok(()) => Ok(ops),
+        Err(untold) => {
+            drop(ops);
+            Err(untold)
+        }
     }
 }

@@ -2,7 +2,6 @@
 use crate::answers::{boot_word, letters};
 use lab_base::VlanId;
 use plant::{NodeRow, PipeRow, ReadFailed, Tables};
-use plant_mem::MemLab;
 use row_words::{Untold, Words};
 use std::alloc::AllocError;
 use std::fmt::Write;
@@ -25,6 +24,13 @@ fn push_node(out: &mut String, read: Result<NodeRow, ReadFailed>) -> Result<(), 
     }
 }
 
+fn push_os(out: &mut String, read: Result<NodeRow, ReadFailed>) -> Result<(), AllocError> {
+    match read {
+        Ok(row) => out.push_str(row.os.as_ref().map_or("none", letters)),
+        Err(_) => out.push_str("unread"),
+    }
+}
+
 fn push_pipe(
     out: &mut String,
     read: Result<Option<PipeRow>, ReadFailed>,
@@ -43,9 +49,9 @@ fn push_pipe(
 }
 
 /// Does a reading, and adds what it tells, if it is one.
-pub fn told(
+pub fn told<P: Tables>(
     out: &mut String,
-    plant: &mut MemLab,
+    plant: &mut P,
     kind: &str,
     words: &mut Words<'_>,
 ) -> Result<bool, Untold> {
@@ -55,6 +61,7 @@ pub fn told(
             push_row(out, plant.row(switch, words.number()?))?;
         }
         "read-node" => push_node(out, plant.node(words.name()?))?,
+        "read-os" => push_os(out, plant.node(words.name()?))?,
         "read-pipe" => {
             let node = words.name()?;
             push_pipe(out, plant.pipe(node, words.short()?))?;

@@ -1,9 +1,11 @@
 //! Records as the journal holds them.
+use crate::answers::letters;
 use crate::bytes::{bytes_of, push_spelled};
 use journal_rec::{Encoded, RecFault, Record, decode, encode};
 use lab_base::Name;
 use row_words::{Untold, Words};
 use std::alloc::{AllocError, Global};
+use std::collections::BTreeSet;
 use std::fmt::Write;
 
 /// The deletion of an experiment.
@@ -35,7 +37,21 @@ fn push_read(out: &mut String, alloc: Global, payload: &[u8]) -> Result<(), Unto
     }
 }
 
-/// Adds what is told of an action with a record, if it is one.
+/// Adds names in their order, each once.
+fn push_ordered(out: &mut String, alloc: Global, words: &mut Words<'_>) -> Result<(), Untold> {
+    let mut names = BTreeSet::new(alloc);
+    for word in words.rest().split(' ') {
+        if names.insert(Name::read(word.as_bytes())?).is_err() {
+            return Err(Untold::Memory);
+        }
+    }
+    for name in &names {
+        write!(out, "{};", letters(name))?;
+    }
+    Ok(())
+}
+
+/// Adds what is told of an action with a record or with names, if it is one.
 pub fn told(
     out: &mut String,
     alloc: Global,
@@ -43,6 +59,7 @@ pub fn told(
     words: &mut Words<'_>,
 ) -> Result<bool, Untold> {
     match kind {
+        "order" => push_ordered(out, alloc, words)?,
         "delete" => push_deletion(out, alloc, words.name()?)?,
         "payload" => push_read(out, alloc, bytes_of(alloc, words.word())?.bytes())?,
         _ => return Ok(false),
