@@ -1,18 +1,28 @@
 //! A command that is cut at each of its steps and calls, by a stop, by a failure of a device, or by one of the disk.
-//! Each cut has to lead to one of some ends.
+//! Each cut has to lead to one of some ends. So have swaps that are open side by side, turned in an order.
+use crate::devices::add_held;
 use crate::drills::{Drill, FAIL_DISK, STOP_ALL, STOP_NONE, STOP_TORN, drilled};
-use crate::ends::{is_at_one, left_by, script_of};
-use anyhow::bail;
-use std::alloc::Global;
+use crate::run::{blank, plainly, run};
+use lab_top::Status;
+use plant_mem::MemLab;
+use row_words::Untold;
+use std::alloc::{AllocError, Global};
 use std::fmt::Write;
 
-/// A case: the scripts before a drill and behind it, the command first, the end where none cuts the command, and the ends that it may lead to.
-#[derive(Drop)]
+/// A command that is cut: the script before it, the command, and the ends that its cuts may lead to.
+#[derive(Clone, Copy)]
+pub struct Cut<'a> {
+    pub before: &'a str,
+    pub command: &'a str,
+    pub ends: &'a [String],
+}
+
+/// The scripts before a drill and behind it, the command first, and the end where none cuts the command.
+#[derive(Clone, Copy)]
 struct Case<'a> {
-    before: &'a str,
-    behind: String,
-    whole: String,
-    ends: &'a [String],
+    cut: Cut<'a>,
+    behind: &'a str,
+    whole: &'a str,
 }
 
 /// Commands behind a failure: they recover what is stuck, or are told of it twice before.
@@ -20,64 +30,48 @@ pub const RECOVERS: &str = "recover\n";
 
 pub const TELLS: &str = "status\nstatus\nrecover\n";
 
-/// A command that is cut, and what stands before it.
-#[derive(Drop)]
-pub struct Cut {
-    pub before: String,
-    pub command: String,
-}
-
-/// The command of the last of these files, behind the others.
-pub fn cut_of(rt: &HostRuntime, files: &[&str]) -> anyhow::Result<Cut> {
-    let [others @ .., last] = files else {
-        bail!("no command");
-    };
-    let mut before = String::new(rt.alloc());
-    for file in others {
-        before.push_str(script_of(rt, file)?.as_str())?;
+/// The end of a run that reads its script to the end: its output, and behind it the states of the devices.
+fn left_by(alloc: Global, script: &str, last: &mut Option<MemLab>) -> Result<String, Untold> {
+    let plant = blank(alloc, last)?;
+    let ran = run(alloc, plainly(script), plant)?;
+    let mut left = ran.output;
+    if ran.status != Status::Done {
+        writeln!(left, "-- {}", ran.status.code())?;
     }
-    Ok(Cut {
-        before,
-        command: script_of(rt, last)?,
-    })
+    add_held(&mut left, alloc, plant)?;
+    Ok(left)
 }
 
-/// The case of a command, and of these commands behind it.
-fn case_of<'a>(
-    alloc: Global,
-    cut: &'a Cut,
-    then: &str,
-    ends: &'a [String],
-) -> anyhow::Result<Case<'a>> {
-    let before = cut.before.as_str();
-    let behind = format!(in alloc; "{}{then}status\nshow A\n", cut.command)?;
-    let script = drilled(alloc, before, STOP_NONE, 1_000_000, behind.as_str())?;
-    let whole = left_by(alloc, script.as_str())?;
-    Ok(Case {
-        before,
-        behind,
-        whole,
-        ends,
-    })
-}
-
-/// How many numbers of the drill cut the command, from 1 on, where each leads to one of the ends.
-fn cut_by(alloc: Global, case: &Case<'_>, drill: Drill) -> anyhow::Result<u32> {
-    for nth in 1..100u32 {
-        let script = drilled(alloc, case.before, drill, nth, case.behind.as_str())?;
-        let left = left_by(alloc, script.as_str())?;
-        if !is_at_one(left.as_str(), case.ends) {
-            bail!(
-                "{}{nth}{} leads elsewhere:\n{left}",
-                drill.before,
-                drill.behind
-            );
+/// Whether a run is at one of these ends.
+fn is_at_one(left: &str, ends: &[String]) -> bool {
+    for end in ends {
+        if left.ends_with(end.as_str()) {
+            return true;
         }
-        if left == case.whole {
+    }
+    false
+}
+
+/// How many numbers of the drill cut the command, from 1 on. Tells of the first one that leads elsewhere.
+fn cut_by(
+    alloc: Global,
+    case: Case<'_>,
+    drill: Drill,
+    last: &mut Option<MemLab>,
+    out: &mut String,
+) -> Result<u32, Untold> {
+    for nth in 1..100u32 {
+        let script = drilled(alloc, case.cut.before, drill, nth, case.behind)?;
+        let left = left_by(alloc, script.as_str(), last)?;
+        if !is_at_one(left.as_str(), case.cut.ends) {
+            write!(out, "{}{nth}{}leads elsewhere:\n{left}", drill.0, drill.1)?;
+            return Ok(0);
+        }
+        if left.as_str() == case.whole {
             return Ok(nth - 1);
         }
     }
-    bail!("no number of the drill is too large")
+    Ok(100)
 }
 
 /// The devices, and how each fails.
@@ -97,38 +91,110 @@ const DEVICES: [&str; 10] = [
 const HOWS: [&str; 2] = [" not\n", " applied\n"];
 
 /// How many failures of devices cut the command.
-fn failures(alloc: Global, case: &Case<'_>) -> anyhow::Result<u32> {
+fn failures(
+    alloc: Global,
+    case: Case<'_>,
+    last: &mut Option<MemLab>,
+    out: &mut String,
+) -> Result<u32, Untold> {
     let mut sum = 0u32;
     for before in DEVICES {
         for behind in HOWS {
-            sum = sum.saturating_add(cut_by(alloc, case, Drill { before, behind })?);
+            sum = sum.saturating_add(cut_by(alloc, case, (before, behind), last, out)?);
         }
     }
     Ok(sum)
 }
 
-/// How many stops by each pick cut the command. Each of them leads to one of the ends.
-pub fn stops(alloc: Global, cut: &Cut, ends: &[String]) -> anyhow::Result<String> {
-    let case = case_of(alloc, cut, "", ends)?;
-    let mut out = String::from_str(alloc, "stops")?;
-    for stop in [STOP_NONE, STOP_ALL, STOP_TORN] {
-        write!(out, " {}", cut_by(alloc, &case, stop)?)?;
-    }
-    out.push('\n')?;
-    Ok(out)
+/// Tells how many stops by each pick cut the command.
+fn add_stops(
+    out: &mut String,
+    alloc: Global,
+    case: Case<'_>,
+    last: &mut Option<MemLab>,
+) -> Result<(), Untold> {
+    let none = cut_by(alloc, case, STOP_NONE, last, out)?;
+    let all = cut_by(alloc, case, STOP_ALL, last, out)?;
+    let torn = cut_by(alloc, case, STOP_TORN, last, out)?;
+    Ok(writeln!(out, "stops {none} {all} {torn}")?)
 }
 
-/// How many failures of devices cut the command, and how many of the disk, counted up to some. Each of them leads to one of the ends,
-/// behind these commands.
-pub fn faults(
+/// Tells how many failures of devices cut the command, and how many of the disk, counted up to some.
+fn add_faults(
+    out: &mut String,
     alloc: Global,
-    cut: &Cut,
-    then: &str,
+    case: Case<'_>,
     calls: u32,
+    last: &mut Option<MemLab>,
+) -> Result<(), Untold> {
+    let failures = failures(alloc, case, last, out)?;
+    let count = cut_by(alloc, case, FAIL_DISK, last, out)?;
+    Ok(write!(
+        out,
+        "failures {failures}\ncalls {} or more\n",
+        count.min(calls)
+    )?)
+}
+
+/// Tells how many stops cut the command, or how many failures, where these commands stand behind it and calls of the disk are counted up to some.
+pub fn add_cuts(
+    out: &mut String,
+    alloc: Global,
+    cut: Cut<'_>,
+    then: Option<(&str, u32)>,
+    last: &mut Option<MemLab>,
+) -> Result<(), Untold> {
+    let (recovers, calls) = then.unwrap_or(("", 0));
+    let behind = format!(in alloc; "{}{recovers}status\nshow A\n", cut.command)?;
+    let script = drilled(alloc, cut.before, STOP_NONE, 1_000_000, behind.as_str())?;
+    let whole = left_by(alloc, script.as_str(), last)?;
+    let case = Case {
+        cut,
+        behind: behind.as_str(),
+        whole: whole.as_str(),
+    };
+    match then {
+        Some(_) => add_faults(out, alloc, case, calls, last),
+        None => add_stops(out, alloc, case, last),
+    }
+}
+
+/// The lines of drills: their words, with a comma between two of them.
+fn add_drills(script: &mut String, drills: &[&str]) -> Result<(), AllocError> {
+    for word in drills {
+        match *word {
+            "," => script.push('\n')?,
+            word => write!(script, "{word} ")?,
+        }
+    }
+    script.push('\n')
+}
+
+/// Adds the rest of the script of an order, behind that which opens the swaps. It plans these drills, turns a swap for each letter and finishes each
+/// swap. Then it recovers what is stuck, and once more what a last failure left stuck.
+fn add_order(script: &mut String, letters: &str, drills: &[&str]) -> Result<(), AllocError> {
+    add_drills(script, drills)?;
+    for letter in letters.chars() {
+        writeln!(script, "turn {letter}")?;
+    }
+    script.push_str("finish A\nfinish B\nfinish C\nrecover\nrecover\nstatus\nshow A\n")
+}
+
+/// Whether the order of swaps that a script opens leads to one of the ends; else what it leads to.
+pub fn order(
+    alloc: Global,
+    opened: String,
+    letters: &str,
     ends: &[String],
-) -> anyhow::Result<String> {
-    let case = case_of(alloc, cut, then, ends)?;
-    let failures = failures(alloc, &case)?;
-    let count = cut_by(alloc, &case, FAIL_DISK)?;
-    Ok(format!(in alloc; "failures {failures}\ncalls {} or more\n", count.min(calls))?)
+    drills: &[&str],
+    last: &mut Option<MemLab>,
+) -> Result<String, Untold> {
+    let mut script = opened;
+    add_order(&mut script, letters, drills)?;
+    let left = left_by(alloc, script.as_str(), last)?;
+    if is_at_one(left.as_str(), ends) {
+        Ok("there\n".to_string(alloc)?)
+    } else {
+        Ok(left)
+    }
 }

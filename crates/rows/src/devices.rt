@@ -1,26 +1,11 @@
 //! The commands that devices obeyed in a run, and their state behind it.
 use lab_base::{Boot, Name};
+use layer_rows::{boot_word, letters};
 use plant::{Answer, DeviceOp, Fault, Step};
 use plant_mem::MemLab;
 use std::alloc::{AllocError, Global};
 use std::collections::{BTreeMap, BTreeSet};
 use std::fmt::Write;
-use std::str;
-
-fn boot_word(state: Boot) -> &'static str {
-    match state {
-        Boot::Off => "OFF",
-        Boot::Shutdown => "SHUTDOWN",
-        Boot::Booting => "BOOTING",
-        Boot::TbSetup => "TBSETUP",
-        Boot::IsUp => "ISUP",
-    }
-}
-
-/// The letters of a name.
-fn letters(name: &Name) -> &str {
-    str::from_utf8(name.bytes()).unwrap_or("?")
-}
 
 /// A node with its state and its OS, where it isn't off without one.
 fn node_line(alloc: Global, plant: &MemLab, node: &Name) -> Result<Option<String>, AllocError> {
@@ -51,8 +36,8 @@ fn held_of(alloc: Global, plant: &MemLab, op: &DeviceOp) -> Result<Option<String
     }
 }
 
-/// The states of the devices, a line each.
-pub fn held(alloc: Global, plant: &MemLab) -> Result<String, AllocError> {
+/// Adds the states of the devices, a line each.
+pub fn add_held(out: &mut String, alloc: Global, plant: &MemLab) -> Result<(), AllocError> {
     let mut lines = BTreeSet::new(alloc);
     for step in plant.trace() {
         if let Step::Did { op, .. } = step
@@ -61,36 +46,29 @@ pub fn held(alloc: Global, plant: &MemLab) -> Result<String, AllocError> {
             lines.insert(line)?;
         }
     }
-    let mut out = String::new(alloc);
     for line in &lines {
         writeln!(out, "{line}")?;
     }
-    Ok(out)
+    Ok(())
 }
 
-/// A poll by the state that it was answered with, if it was.
-fn poll_counted(alloc: Global, answer: &Result<Answer, Fault>) -> Result<String, AllocError> {
-    match answer {
-        Ok(Answer::State(state)) => format!(in alloc; "polls {}", boot_word(*state)),
-        _ => "others".to_string(alloc),
-    }
-}
-
-/// The count to which a command belongs: the boots of a node, its polls with that answer, or the command itself.
+/// The count to which a command belongs: the boots of a node, the polls that were answered with a state, or all others.
 fn counted(
     alloc: Global,
     op: &DeviceOp,
     answer: &Result<Answer, Fault>,
 ) -> Result<String, AllocError> {
-    match op {
-        DeviceOp::Boot { node } => format!(in alloc; "boots {}", letters(node)),
-        DeviceOp::Poll { .. } => poll_counted(alloc, answer),
+    match (op, answer) {
+        (DeviceOp::Boot { node }, _) => format!(in alloc; "boots {}", letters(node)),
+        (DeviceOp::Poll { .. }, Ok(Answer::State(state))) => {
+            format!(in alloc; "polls {}", boot_word(*state))
+        }
         _ => "others".to_string(alloc),
     }
 }
 
-/// The counts of commands, a line each.
-pub fn did(alloc: Global, plant: &MemLab) -> Result<String, AllocError> {
+/// Adds the counts of commands, a line each.
+pub fn add_did(out: &mut String, alloc: Global, plant: &MemLab) -> Result<(), AllocError> {
     let mut counts: BTreeMap<String, u32> = BTreeMap::new(alloc);
     for step in plant.trace() {
         if let Step::Did { op, answer, .. } = step {
@@ -99,9 +77,8 @@ pub fn did(alloc: Global, plant: &MemLab) -> Result<String, AllocError> {
             counts.insert(what, count)?;
         }
     }
-    let mut out = String::new(alloc);
     for (what, count) in &counts {
         writeln!(out, "{what} {count}")?;
     }
-    Ok(out)
+    Ok(())
 }

@@ -7,15 +7,12 @@
 //! repository's folder of that name, which users run.
 #![tactic(auto)]
 
-mod crashes;
+mod calls;
 mod cuts;
 mod devices;
 mod drills;
-mod ends;
 mod folders;
-mod limits;
 mod numbers;
-mod orders;
 mod room;
 mod row;
 mod run;
@@ -87,8 +84,10 @@ fn tell_search(rt: &HostRuntime, line: &str) -> anyhow::Result<()> {
 }
 
 fn tell_script(rt: &HostRuntime, last: &mut Option<MemLab>, line: &str) -> anyhow::Result<()> {
-    let told = row::told(rt, line, last)?;
-    Ok(print!(rt; "== {line}\n{told}")?)
+    match row::told(rt, line, last) {
+        Ok(told) => Ok(print!(rt; "== {line}\n{told}")?),
+        Err(untold) => tell_row(rt, line, Err(untold)),
+    }
 }
 
 /// Prints a row with its output.

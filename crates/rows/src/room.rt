@@ -1,9 +1,9 @@
 //! How much a plant in memory takes from a start to the stop.
-use crate::run::{blank, wanting};
-use anyhow::anyhow;
+use crate::run::blank;
 use lab_base::Name;
 use plant::{DeviceOp, Plant, Side};
 use plant_mem::MemLab;
+use row_words::Untold;
 use std::alloc::Global;
 
 /// The bytes of a write.
@@ -33,16 +33,16 @@ fn writes_taken(plant: &mut MemLab, bytes: &[u8]) -> u32 {
 }
 
 /// How many commands a plant takes from its first start, and how many writes of the piece. Then the same behind a restart each.
-pub fn room(alloc: Global) -> anyhow::Result<String> {
-    let node = Name::read(b"n").map_err(|_| anyhow!("no name"))?;
+pub fn room(alloc: Global, last: &mut Option<MemLab>) -> Result<String, Untold> {
+    let node = Name::read(b"n")?;
     let piece = vec![in alloc; 7u8; PIECE]?;
-    let steps = steps_taken(&mut blank(alloc)?, node);
-    let mut plant = blank(alloc)?;
-    let writes = writes_taken(&mut plant, &piece);
-    plant.restart().map_err(wanting)?;
-    let steps_behind = steps_taken(&mut plant, node);
-    plant.restart().map_err(wanting)?;
-    let writes_behind = writes_taken(&mut plant, &piece);
+    let steps = steps_taken(blank(alloc, last)?, node);
+    let plant = blank(alloc, last)?;
+    let writes = writes_taken(plant, &piece);
+    plant.restart()?;
+    let steps_behind = steps_taken(plant, node);
+    plant.restart()?;
+    let writes_behind = writes_taken(plant, &piece);
     let out = format!(in alloc;
         "{steps} steps, {writes} writes\n{steps_behind} steps, {writes_behind} writes\n"
     )?;

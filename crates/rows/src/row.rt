@@ -9,58 +9,45 @@
 //! side A [B] FILE        over a plant whose side A has the bytes of a file, and side B those of another
 //! sides                  how long both sides are that the row before left, and what is in them where that is little
 //! like FILE              whether its side A has the bytes of the file, and its side B none
-//! limit BYTES FILE       the reply to the third command of a script without drills, where the journal has at most so many bytes
 //! room                   how many commands and writes of 65,536 bytes a plant in memory takes before it stops, at first and behind a restart
+//! lines BYTES            the lines that a reader takes of these bytes, each behind what it shows of it twice before
+//! sink ROOM N PIECES     the answers of writes to a sink with room for so many bytes, whose N-th write fails, and what it has then
+//! drawn SEED N..         how much the script of a seed has, and its lines of these numbers, from 0
+//! calls FOLDER ACTIONS   calls of a plant in the files of a folder, or of another such plant: those actions of `layer_rows` that any plant takes, and
+//!                        write SIDE AT BYTES, cut SIDE LENGTH, part SIDE AT
 //! place WORDS            where the words keep the lab
 //! file FILE              what is in the file
+//! there FILE             whether the file or folder is there
 //! remove FOLDER          nothing, and the folder is gone
 //! turns LAST FILE        the steps where the marked lines of the script stand 0, 1, .. LAST times
 //! long COUNT FILE        what is written where they stand so often
 //! numbers LAST DRILL FILE        where the drill of number 1, 2, .. LAST stands at the mark
 //! cuts CALLS ENDS FILE.. how many numbers of each drill cut the command of the last file, behind the others, each leading to one of the ends
 //! told CALLS ENDS FILE.. the same of failures, where `status` stands twice behind the command, and then `recover`
-//! crashes ENDS FILE.. how many calls the script of the last file has behind the others over a folder in memory, and how often it is killed in them or
-//!                        power lost, each time leading to one of the ends
-//! reopened K ENDS FILE.. the same of the opening behind the last file, whose run is killed in its K-th call
-//! moved COUNT ENDS FILE.. the same of an opening behind the files, where the marked lines of the last one stand so often
 //! order LETTERS END [DRILL , ..]         whether swaps that are turned in that order lead to the end
 //! ```
 //!
 //! A blank plant is one in which nothing has happened. Lines are marked by a line `@` before and one behind them, and a place by one.
-use crate::crashes::{Case, OPENING, crashes};
-use crate::cuts::{Cut, RECOVERS, TELLS, cut_of, faults, stops};
-use crate::devices::{did, held};
+use crate::calls::{calls, drawn, lines, sink};
+use crate::cuts::{Cut, RECOVERS, TELLS, add_cuts, order};
+use crate::devices::{add_did, add_held};
 use crate::drills::drill_named;
-use crate::ends::{ends_of, script_of};
-use crate::folders::{folder_of, place, run_in};
-use crate::limits::limit;
-use crate::numbers::{long, numbers, repeated, turns};
-use crate::orders::order;
+use crate::folders::{folder_of, place, run_in, words_of};
+use crate::numbers::{long, numbers, turns};
 use crate::room::room;
-use crate::run::{Given, Ran, blank, ending, plainly, run, run_blank};
-use crate::sides::{like, plant_with, sides};
-use anyhow::{anyhow, bail};
+use crate::run::{Given, blank, ended, plainly};
+use crate::sides::{fill, like, sides};
+use lab_base::Kind;
+use layer_rows::yes_or_no;
+use plant::Side;
 use plant_mem::MemLab;
-use std::alloc::Global;
+use row_files::{bytes_in, ends_of, is_there, remove, script_of, scripts_of, text_in};
+use row_words::Untold;
 use std::fmt::Write;
-use std::fs;
-
-/// Keeps a plant for the next row.
-fn keep(last: &mut Option<MemLab>, plant: MemLab) {
-    *last = Some(plant);
-}
 
 /// The plant that the row before left.
-fn kept(last: &mut Option<MemLab>) -> anyhow::Result<&mut MemLab> {
-    last.as_mut().ok_or_else(|| anyhow!("no plant is left"))
-}
-
-/// Runs a script over a blank plant, and keeps that as the last one.
-fn run_kept(alloc: Global, given: Given<'_>, last: &mut Option<MemLab>) -> anyhow::Result<Ran> {
-    let mut plant = blank(alloc)?;
-    let ran = run(alloc, given, &mut plant);
-    keep(last, plant);
-    ran
+fn kept(last: &mut Option<MemLab>) -> Result<&mut MemLab, Untold> {
+    last.as_mut().ok_or(Untold::Plant)
 }
 
 /// Runs a script by words over the folder that they choose, or else over a blank plant.
@@ -69,60 +56,17 @@ fn script(
     file: &str,
     words: &[&str],
     last: &mut Option<MemLab>,
-) -> anyhow::Result<String> {
+) -> Result<String, Untold> {
     let script = script_of(rt, file)?;
+    let words = words_of(rt.alloc(), words)?;
     let given = Given {
-        words,
+        words: words.as_slice(),
         ..plainly(script.as_str())
     };
-    let ran = match folder_of(rt.alloc(), words)? {
-        Some(folder) => run_in(rt, folder.as_str(), given)?,
-        None => run_kept(rt.alloc(), given, last)?,
-    };
-    Ok(ending(ran)?)
-}
-
-/// Runs a script over a plant, and tells the number of its steps.
-fn steps_over(alloc: Global, given: Given<'_>, plant: &mut MemLab) -> anyhow::Result<String> {
-    let mut out = ending(run(alloc, given, plant)?)?;
-    writeln!(out, "steps {}", plant.trace().len())?;
-    Ok(out)
-}
-
-/// Runs a script over a blank plant, and tells the number of its steps.
-fn steps(rt: &HostRuntime, file: &str, words: &[&str]) -> anyhow::Result<String> {
-    let script = script_of(rt, file)?;
-    let given = Given {
-        words,
-        ..plainly(script.as_str())
-    };
-    let mut plant = blank(rt.alloc())?;
-    let told = steps_over(rt.alloc(), given, &mut plant);
-    drop(plant);
-    told
-}
-
-/// Runs a script over a plant, and tells the commands and the states of its devices.
-fn devices_over(alloc: Global, script: &str, plant: &mut MemLab) -> anyhow::Result<String> {
-    let mut out = ending(run(alloc, plainly(script), plant)?)?;
-    out.push_str(did(alloc, plant)?.as_str())?;
-    out.push_str(held(alloc, plant)?.as_str())?;
-    Ok(out)
-}
-
-/// Runs a script over a blank plant, and tells the commands and the states of its devices.
-fn devices(rt: &HostRuntime, file: &str) -> anyhow::Result<String> {
-    let script = script_of(rt, file)?;
-    let mut plant = blank(rt.alloc())?;
-    let told = devices_over(rt.alloc(), script.as_str(), &mut plant);
-    drop(plant);
-    told
-}
-
-/// Runs a script over a plant.
-fn over(rt: &HostRuntime, file: &str, plant: &mut MemLab) -> anyhow::Result<String> {
-    let script = script_of(rt, file)?;
-    Ok(ending(run(rt.alloc(), plainly(script.as_str()), plant)?)?)
+    match folder_of(rt.alloc(), words.as_slice())? {
+        Some(folder) => run_in(rt, folder.as_str(), given),
+        None => ended(rt.alloc(), given, blank(rt.alloc(), last)?),
+    }
 }
 
 /// Runs a script by words over a blank plant, with the numbers of a failing read and write, and of bytes of room.
@@ -131,179 +75,202 @@ fn faulty(
     numbers: [&str; 3],
     file: &str,
     words: &[&str],
-) -> anyhow::Result<String> {
+    last: &mut Option<MemLab>,
+) -> Result<String, Untold> {
     let script = script_of(rt, file)?;
+    let words = words_of(rt.alloc(), words)?;
     let [read, write, room] = numbers;
     let given = Given {
-        words,
+        words: words.as_slice(),
         script: script.as_str(),
         read: read.parse()?,
         write: write.parse()?,
         room: room.parse()?,
     };
-    Ok(ending(run_blank(rt.alloc(), given)?)?)
+    ended(rt.alloc(), given, blank(rt.alloc(), last)?)
 }
 
-/// Runs a script whose marked lines are there many times, and keeps its plant as the last one.
-fn many(
+/// Runs a script by words over a blank plant, and tells the number of its steps.
+fn steps(
     rt: &HostRuntime,
     file: &str,
-    count: u32,
+    words: &[&str],
     last: &mut Option<MemLab>,
-) -> anyhow::Result<String> {
-    let script = script_of(rt, file)?;
-    let mut plant = blank(rt.alloc())?;
-    let told = long(rt.alloc(), script.as_str(), count, &mut plant);
-    keep(last, plant);
-    told
-}
-
-/// The names between commas.
-fn names_in<'a>(alloc: Global, words: &'a str) -> anyhow::Result<Vec<&'a str>> {
-    Ok(words.split(',').collect(alloc)?)
-}
-
-/// Cuts the command of the last file by stops and failures, behind which what is stuck is recovered.
-fn cuts(rt: &HostRuntime, calls: u32, ends: &str, files: &[&str]) -> anyhow::Result<String> {
-    let alloc = rt.alloc();
-    let ends = ends_of(rt, &names_in(alloc, ends)?)?;
-    let cut = cut_of(rt, files)?;
-    let mut out = stops(alloc, &cut, &ends)?;
-    out.push_str(faults(alloc, &cut, RECOVERS, calls, &ends)?.as_str())?;
+) -> Result<String, Untold> {
+    let mut out = faulty(rt, ["0", "0", "65536"], file, words, last)?;
+    writeln!(out, "steps {}", kept(last)?.trace().len())?;
     Ok(out)
 }
 
-/// Cuts it by failures, of which is told twice before.
-fn told_twice(rt: &HostRuntime, calls: u32, ends: &str, files: &[&str]) -> anyhow::Result<String> {
-    let ends = ends_of(rt, &names_in(rt.alloc(), ends)?)?;
-    faults(rt.alloc(), &cut_of(rt, files)?, TELLS, calls, &ends)
+/// Runs a script over a blank plant, and tells the commands and the states of its devices.
+fn devices(rt: &HostRuntime, file: &str, last: &mut Option<MemLab>) -> Result<String, Untold> {
+    let mut out = faulty(rt, ["0", "0", "65536"], file, &[], last)?;
+    let plant = kept(last)?;
+    add_did(&mut out, rt.alloc(), plant)?;
+    add_held(&mut out, rt.alloc(), plant)?;
+    Ok(out)
 }
 
-/// Cuts the script of the last file over a folder in memory.
-fn crashed(rt: &HostRuntime, ends: &str, files: &[&str]) -> anyhow::Result<String> {
-    let ends = ends_of(rt, &names_in(rt.alloc(), ends)?)?;
-    let Cut { before, command } = cut_of(rt, files)?;
-    let case = Case {
-        before,
-        killed: None,
-        command,
-        ends,
-    };
-    crashes(rt.alloc(), &case)
+/// Runs a script over the plant that the row before left.
+fn again(rt: &HostRuntime, file: &str, last: &mut Option<MemLab>) -> Result<String, Untold> {
+    let script = script_of(rt, file)?;
+    ended(rt.alloc(), plainly(script.as_str()), kept(last)?)
 }
 
-/// Cuts the opening behind a run that is killed in its call of that number.
-fn reopened(rt: &HostRuntime, nth: u64, ends: &str, files: &[&str]) -> anyhow::Result<String> {
-    let ends = ends_of(rt, &names_in(rt.alloc(), ends)?)?;
-    let Cut { before, command } = cut_of(rt, files)?;
-    let case = Case {
-        before,
-        killed: Some((command, nth)),
-        command: OPENING.to_string(rt.alloc())?,
-        ends,
-    };
-    crashes(rt.alloc(), &case)
-}
-
-/// Cuts the opening behind scripts of which the last one has its marked lines so often.
-fn moved(rt: &HostRuntime, count: u32, ends: &str, files: &[&str]) -> anyhow::Result<String> {
-    let ends = ends_of(rt, &names_in(rt.alloc(), ends)?)?;
-    let Cut { before, command } = cut_of(rt, files)?;
-    let mut before = before;
-    before.push_str(repeated(rt.alloc(), command.as_str(), count)?.as_str())?;
-    let case = Case {
-        before,
-        killed: None,
-        command: OPENING.to_string(rt.alloc())?,
-        ends,
-    };
-    crashes(rt.alloc(), &case)
-}
-
-/// A plant whose sides have the bytes of these files: side A those of the first, and side B those of the second, if there is one.
-fn plant_of(rt: &HostRuntime, files: &[&str]) -> anyhow::Result<MemLab> {
-    let none = Vec::new(rt.alloc());
-    match files {
-        [a] => plant_with(rt.alloc(), &fs::read(rt, *a)?, &none),
-        [a, b] => plant_with(rt.alloc(), &fs::read(rt, *a)?, &fs::read(rt, *b)?),
-        _ => bail!("one side, or two"),
+/// Puts a plant whose sides have the bytes of these files in the place of the last one: side A those of the first, and side B those of the second,
+/// if there is one.
+fn fill_both(rt: &HostRuntime, files: &[&str], last: &mut Option<MemLab>) -> Result<(), Untold> {
+    let plant = blank(rt.alloc(), last)?;
+    for (n, file) in files.iter().enumerate() {
+        let side = if n == 0 { Side::A } else { Side::B };
+        fill(plant, side, &bytes_in(rt, file)?)?;
     }
+    Ok(())
 }
 
-fn remove(rt: &HostRuntime, folder: &str) -> anyhow::Result<String> {
-    if fs::exists(rt, folder)? {
-        fs::remove_dir_all(rt, folder)?;
-    }
-    Ok(String::new(rt.alloc()))
-}
-
-/// Runs a script over a plant whose sides have the bytes of files, and keeps it as the last one.
-fn over_sides(
+/// Cuts the command of the last file by stops and failures, behind which what is stuck is recovered; or by failures alone, of which is told twice
+/// before.
+fn cuts(
     rt: &HostRuntime,
-    sides: &[&str],
-    file: &str,
+    is_told: bool,
+    calls: u32,
+    names: [&str; 2],
+    others: &[&str],
     last: &mut Option<MemLab>,
-) -> anyhow::Result<String> {
-    let mut plant = plant_of(rt, sides)?;
-    let told = over(rt, file, &mut plant);
-    keep(last, plant);
-    told
+) -> Result<String, Untold> {
+    let ends = ends_of(rt, names[0])?;
+    let before = scripts_of(rt, others)?;
+    let command = script_of(rt, names[1])?;
+    let cut = Cut {
+        before: before.as_str(),
+        command: command.as_str(),
+        ends: ends.as_slice(),
+    };
+    let mut out = String::new(rt.alloc());
+    let then = if is_told { TELLS } else { RECOVERS };
+    if !is_told {
+        add_cuts(&mut out, rt.alloc(), cut, None, last)?;
+    }
+    add_cuts(&mut out, rt.alloc(), cut, Some((then, calls)), last)?;
+    Ok(out)
+}
+
+/// Whether swaps that are turned in an order lead to an end.
+fn ordered(
+    rt: &HostRuntime,
+    letters: &str,
+    end: &str,
+    drills: &[&str],
+    last: &mut Option<MemLab>,
+) -> Result<String, Untold> {
+    let ends = ends_of(rt, end)?;
+    order(
+        rt.alloc(),
+        script_of(rt, "orders/opened")?,
+        letters,
+        ends.as_slice(),
+        drills,
+        last,
+    )
+}
+
+/// The text of a row about files alone, or about what a plant takes.
+fn told_alone(
+    rt: &HostRuntime,
+    words: &[&str],
+    last: &mut Option<MemLab>,
+) -> Result<String, Untold> {
+    match words {
+        ["room"] => room(rt.alloc(), last),
+        ["lines"] => lines(rt.alloc(), ""),
+        ["lines", bytes] => lines(rt.alloc(), bytes),
+        ["sink", room, fails, pieces @ ..] => {
+            sink(rt.alloc(), room.parse()?, fails.parse()?, pieces)
+        }
+        ["drawn", seed, numbers @ ..] => drawn(rt.alloc(), seed.parse()?, numbers),
+        ["place", words @ ..] => place(rt.alloc(), &words_of(rt.alloc(), words)?),
+        ["file", file] => text_in(rt, file),
+        ["there", file] => Ok(format!(in rt.alloc(); "{}\n", yes_or_no(is_there(rt, file)))?),
+        ["remove", folder] => {
+            remove(rt, folder)?;
+            Ok(String::new(rt.alloc()))
+        }
+        _ => Err(Untold::Word(Kind::Unknown)),
+    }
 }
 
 /// The output of a row about scripts with drills or lines of many numbers.
-fn told_of_numbers(rt: &HostRuntime, words: &[&str]) -> anyhow::Result<String> {
+fn told_of_numbers(
+    rt: &HostRuntime,
+    words: &[&str],
+    last: &mut Option<MemLab>,
+) -> Result<String, Untold> {
     match words {
-        ["turns", last, file] => { turns(rt.alloc(), script_of(rt, file)?.as_str(), last.parse()?) }
-        ["numbers", last, drill, file] => {
-            numbers(
+        ["turns", most, file] => {
+            turns(
                 rt.alloc(),
                 script_of(rt, file)?.as_str(),
-                drill_named(drill)?,
-                last.parse()?,
+                most.parse()?,
+                last,
             )
         }
-        ["cuts", calls, ends, files @ ..] => cuts(rt, calls.parse()?, ends, files),
-        ["told", calls, ends, files @ ..] => told_twice(rt, calls.parse()?, ends, files),
-        ["crashes", ends, files @ ..] => crashed(rt, ends, files),
-        ["reopened", nth, ends, files @ ..] => reopened(rt, nth.parse()?, ends, files),
-        ["moved", count, ends, files @ ..] => moved(rt, count.parse()?, ends, files),
-        ["order", letters, end, drills @ ..] => order(rt, letters, end, drills),
-        _ => bail!("no such row"),
-    }
-}
-
-/// The output of a row that has no use for the plant of the row before.
-fn told_alone(rt: &HostRuntime, words: &[&str]) -> anyhow::Result<String> {
-    match words {
-        ["steps", file, words @ ..] => steps(rt, file, words),
-        ["devices", file] => devices(rt, file),
-        ["faulty", read, write, room, file, words @ ..] => {
-            faulty(rt, [*read, *write, *room], file, words)
+        ["long", count, file] => {
+            long(
+                rt.alloc(),
+                script_of(rt, file)?.as_str(),
+                count.parse()?,
+                last,
+            )
         }
-        ["limit", bytes, file] => limit(rt, bytes.parse()?, file),
-        ["room"] => room(rt.alloc()),
-        ["place", words @ ..] => place(rt.alloc(), words),
-        ["file", file] => Ok(fs::read_to_string(rt, *file)?),
-        ["remove", folder] => remove(rt, folder),
-        _ => told_of_numbers(rt, words),
+        ["numbers", most, drill, file] => {
+            let script = script_of(rt, file)?;
+            numbers(
+                rt.alloc(),
+                script.as_str(),
+                drill_named(drill)?,
+                most.parse()?,
+                last,
+            )
+        }
+        ["cuts", calls, ends, others @ .., file] => {
+            cuts(rt, false, calls.parse()?, [*ends, *file], others, last)
+        }
+        ["told", calls, ends, others @ .., file] => {
+            cuts(rt, true, calls.parse()?, [*ends, *file], others, last)
+        }
+        ["order", letters, end, drills @ ..] => ordered(rt, letters, end, drills, last),
+        _ => told_alone(rt, words, last),
     }
 }
 
-/// The output of a row of these words, over the plant that the row before left, or of one that keeps its own for the next row.
-fn told_of(rt: &HostRuntime, words: &[&str], last: &mut Option<MemLab>) -> anyhow::Result<String> {
+/// The output of a row of these words, over the plant that the row before left, or over one that is left to the next row.
+fn told_of(rt: &HostRuntime, words: &[&str], last: &mut Option<MemLab>) -> Result<String, Untold> {
     match words {
         ["script", file, words @ ..] => script(rt, file, words, last),
-        ["again", file] => over(rt, file, kept(last)?),
-        ["side", sides @ .., file] => over_sides(rt, sides, file, last),
+        ["steps", file, words @ ..] => steps(rt, file, words, last),
+        ["devices", file] => devices(rt, file, last),
+        ["faulty", read, write, room, file, words @ ..] => {
+            faulty(rt, [*read, *write, *room], file, words, last)
+        }
+        ["again", file] => again(rt, file, last),
+        ["side", sides @ .., file] => {
+            fill_both(rt, sides, last)?;
+            again(rt, file, last)
+        }
         ["sides"] => sides(rt.alloc(), kept(last)?),
-        ["like", file] => like(rt.alloc(), kept(last)?, &fs::read(rt, *file)?),
-        ["long", count, file] => many(rt, file, count.parse()?, last),
-        _ => told_alone(rt, words),
+        ["like", file] => like(rt.alloc(), kept(last)?, &bytes_in(rt, file)?),
+        _ => told_of_numbers(rt, words, last),
     }
 }
 
-/// The output of a row. The plant of a row that has its own is left to the next one.
-pub fn told(rt: &HostRuntime, line: &str, last: &mut Option<MemLab>) -> anyhow::Result<String> {
+/// The output of a row.
+pub fn told(rt: &HostRuntime, line: &str, last: &mut Option<MemLab>) -> Result<String, Untold> {
+    if let Some((folder, actions)) = line
+        .strip_prefix("calls ")
+        .and_then(|rest| rest.split_once(' '))
+    {
+        return calls(rt, folder, actions);
+    }
     let words: Vec<&str> = line.split_whitespace().collect(rt.alloc())?;
     told_of(rt, &words, last)
 }

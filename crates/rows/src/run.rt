@@ -1,19 +1,18 @@
 //! A run of the program over a plant.
-use anyhow::anyhow;
-use lab_base::Memory;
 use lab_io::{MemSink, MemSource};
 use lab_top::{Status, labctl};
 use plant::{Side, Tables};
 use plant_mem::MemLab;
+use row_files::letters_in;
+use row_words::Untold;
 use std::alloc::{AllocError, Global};
 use std::fmt::Write;
-use std::str;
 
 /// The inputs of a run.
 #[derive(Clone, Copy)]
 pub struct Given<'a> {
     /// The words of the command line.
-    pub words: &'a [&'a str],
+    pub words: &'a [String],
     pub script: &'a str,
     /// The number of the read that fails, or 0.
     pub read: u32,
@@ -41,46 +40,21 @@ pub struct Ran {
     pub status: Status,
 }
 
-/// Memory was wanting.
-pub fn wanting(_memory: Memory) -> anyhow::Error {
-    anyhow!("out of memory")
-}
-
-/// The words, as the program has them.
-pub fn words_of(alloc: Global, words: &[&str]) -> Result<Vec<String>, AllocError> {
-    let mut own = Vec::new(alloc);
-    for word in words {
-        own.push(String::from_str(alloc, word)?)?;
+/// Puts a plant in which nothing has happened in the place of the last one.
+pub fn blank(alloc: Global, last: &mut Option<MemLab>) -> Result<&mut MemLab, Untold> {
+    match MemLab::blank(alloc) {
+        Ok(plant) => Ok(last.insert(plant)),
+        Err(_) => Err(Untold::Memory),
     }
-    Ok(own)
 }
 
 /// Runs a script over a plant.
-pub fn run<P: Tables>(alloc: Global, given: Given<'_>, plant: &mut P) -> anyhow::Result<Ran> {
-    let words = words_of(alloc, given.words)?;
-    let mut source = MemSource::new(alloc, given.script.as_bytes(), &[given.read]).map_err(
-        wanting,
-    )?;
-    let mut sink = MemSink::new(alloc, given.room, &[given.write]).map_err(wanting)?;
-    let status = labctl(alloc, &words, &mut source, &mut sink, plant);
-    let output = String::from_str(alloc, str::from_utf8(sink.bytes())?)?;
+pub fn run<P: Tables>(alloc: Global, given: Given<'_>, plant: &mut P) -> Result<Ran, Untold> {
+    let mut source = MemSource::new(alloc, given.script.as_bytes(), &[given.read])?;
+    let mut sink = MemSink::new(alloc, given.room, &[given.write])?;
+    let status = labctl(alloc, given.words, &mut source, &mut sink, plant);
+    let output = letters_in(alloc, sink.bytes())?;
     Ok(Ran { output, status })
-}
-
-/// A plant in which nothing has happened.
-pub fn blank(alloc: Global) -> anyhow::Result<MemLab> {
-    match MemLab::blank(alloc) {
-        Ok(plant) => Ok(plant),
-        Err(memory) => Err(wanting(memory)),
-    }
-}
-
-/// Runs a script over a blank plant, which ends with the run.
-pub fn run_blank(alloc: Global, given: Given<'_>) -> anyhow::Result<Ran> {
-    let mut plant = blank(alloc)?;
-    let ran = run(alloc, given, &mut plant);
-    drop(plant);
-    ran
 }
 
 /// Adds the code of the status, with what else it says.
@@ -94,8 +68,9 @@ fn add_status(out: &mut String, status: Status) -> Result<(), AllocError> {
     }
 }
 
-/// The output of a run, and in a line of its own its end.
-pub fn ending(ran: Ran) -> Result<String, AllocError> {
+/// The output of a run over a plant, and in a line of its own its end.
+pub fn ended<P: Tables>(alloc: Global, given: Given<'_>, plant: &mut P) -> Result<String, Untold> {
+    let ran = run(alloc, given, plant)?;
     let mut out = ran.output;
     if !out.is_empty() && !out.ends_with('\n') {
         out.push('\n')?;
@@ -103,4 +78,9 @@ pub fn ending(ran: Ran) -> Result<String, AllocError> {
     add_status(&mut out, ran.status)?;
     out.push('\n')?;
     Ok(out)
+}
+
+/// The output of a script over a blank plant, and its end.
+pub fn told(alloc: Global, script: &str, last: &mut Option<MemLab>) -> Result<String, Untold> {
+    ended(alloc, plainly(script), blank(alloc, last)?)
 }

@@ -1,47 +1,23 @@
 //! The sides of the disk.
-use crate::run::blank;
-use anyhow::anyhow;
 use plant::{Plant, Side};
 use plant_mem::MemLab;
+use row_words::Untold;
 use std::alloc::{AllocError, Global};
 use std::fmt::Write;
 
 /// Writes bytes at the beginning of a side, if there are any.
-fn fill(plant: &mut MemLab, side: Side, bytes: &[u8]) -> anyhow::Result<()> {
-    if bytes.is_empty() {
-        return Ok(());
+pub fn fill(plant: &mut MemLab, side: Side, bytes: &[u8]) -> Result<(), Untold> {
+    if !bytes.is_empty() {
+        plant.write(side, 0, bytes)?;
     }
-    plant
-        .write(side, 0, bytes)
-        .map_err(|_fault| anyhow!("a write failed"))
-}
-
-fn fill_both(plant: &mut MemLab, a: &[u8], b: &[u8]) -> anyhow::Result<()> {
-    fill(plant, Side::A, a)?;
-    fill(plant, Side::B, b)
-}
-
-/// A plant whose sides have these bytes, and in which nothing else has happened.
-pub fn plant_with(alloc: Global, a: &[u8], b: &[u8]) -> anyhow::Result<MemLab> {
-    let mut plant = blank(alloc)?;
-    match fill_both(&mut plant, a, b) {
-        Ok(()) => Ok(plant),
-        Err(error) => {
-            drop(plant);
-            Err(error)
-        }
-    }
+    Ok(())
 }
 
 /// The bytes that a side reads as.
-fn read_side(alloc: Global, plant: &mut MemLab, side: Side) -> anyhow::Result<Vec<u8>> {
-    let size = plant
-        .length(side)
-        .map_err(|_fault| anyhow!("a side has no length"))?;
+fn read_side(alloc: Global, plant: &mut MemLab, side: Side) -> Result<Vec<u8>, Untold> {
+    let size = plant.length(side)?;
     let mut bytes = vec![in alloc; 0u8; size as usize]?;
-    plant
-        .read(side, 0, &mut bytes)
-        .map_err(|_fault| anyhow!("a side can't be read"))?;
+    plant.read(side, 0, &mut bytes)?;
     Ok(bytes)
 }
 
@@ -57,7 +33,7 @@ fn add_bytes(out: &mut String, bytes: &[u8]) -> Result<(), AllocError> {
 }
 
 /// The lengths of both sides, and their bytes where these are few.
-pub fn sides(alloc: Global, plant: &mut MemLab) -> anyhow::Result<String> {
+pub fn sides(alloc: Global, plant: &mut MemLab) -> Result<String, Untold> {
     let mut out = String::new(alloc);
     for (name, side) in [("A", Side::A), ("B", Side::B)] {
         let bytes = read_side(alloc, plant, side)?;
@@ -70,7 +46,7 @@ pub fn sides(alloc: Global, plant: &mut MemLab) -> anyhow::Result<String> {
 }
 
 /// Whether side A has these bytes, and side B none.
-pub fn like(alloc: Global, plant: &mut MemLab, bytes: &[u8]) -> anyhow::Result<String> {
+pub fn like(alloc: Global, plant: &mut MemLab, bytes: &[u8]) -> Result<String, Untold> {
     let a = read_side(alloc, plant, Side::A)?;
     let b = read_side(alloc, plant, Side::B)?;
     let word = if a.as_slice() == bytes && b.is_empty() {

@@ -1,6 +1,6 @@
 use Rattle.std.proofs.Common.{◌≡◌, false, not, ap, arith}
 use Rattle.script_text.specs.Replies.{closes}
-use Rattle.rows.proofs.limits.obeyed.Goals as goal
+use Rattle.folder_rows.proofs.limits.obeyed.Goals as goal
 
 -- it works with the swaps that are open behind the command
 pub returns-else-closes : goal.returns-else-closes

@@ -1,5 +1,5 @@
 use Rattle.std.proofs.Common.{[]}
-use Rattle.rows.proofs.limits.reply_under.Goals as goal
+use Rattle.folder_rows.proofs.limits.reply_under.Goals as goal
 
 -- a controller that was opened works with no open swap
 pub third_reply-requires : goal.third_reply-requires

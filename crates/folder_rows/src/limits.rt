@@ -7,34 +7,39 @@ ghost use Rattle.cost_rule.specs.Parts.{AreParts, cost_of_parts};
 ghost use Rattle.lab_core.specs.Controller.{CanWork};
 ghost use Rattle.script_text.specs.Blocks.{HasBlocks};
 ghost use Rattle.script_text.specs.Drills.{drill_of};
+ghost use Rattle.std.specs.Option.{ForSome};
+ghost use Rattle.lab_folder.specs.Left.{IsLeft};
 
-use crate::ends::script_of;
-use crate::run::{blank, wanting};
-use anyhow::{anyhow, bail};
+use crate::runs::blank;
 use cost_rule::{CostFn, Parts, PartsFn, Rule, RuleNumber, StepFn, StepRule};
+use folder::{Folder, NamedFolder};
+use lab_base::{Kind, Memory};
 use lab_core::Controller;
 use lab_io::{LineReader, MemSource};
+use mem_folder::MemFolder;
 use phys_lab::Lab;
 use plant::Tables;
+use plant_file::FolderLab;
+use row_files::{letters_in, script_of};
+use row_words::Untold;
 use rule_costs::{cost_of, parts_cost, step_cost};
 use script_text::{Command, Next, Reply, read_command, reply_text};
 use std::alloc::Global;
-use std::str;
 use virt_topo::{Mapping, Wiring};
 
 /// The most bytes of a journal.
 const MOST: u64 = 4_294_967_296;
 
 /// The next command of a script without drills.
-fn next_of(alloc: Global, lines: &mut LineReader, script: &mut MemSource) -> anyhow::Result<Command>
+fn next_of(alloc: Global, lines: &mut LineReader, script: &mut MemSource) -> Result<Command, Untold>
     ensures blocks { IfOk result HasBlocks }
     ensures no_drill { IfOk result (λ command. drill_of command ≡ None) }
 {
     let Ok(Next::Command(command)) = read_command(alloc, lines, script) else {
-        return Err(anyhow!("no command"));
+        return Err(Untold::Word(Kind::Command));
     };
     match command.drill() {
-        Some(_) => Err(anyhow!("a drill")),
+        Some(_) => Err(Untold::Word(Kind::Command)),
         None => Ok(command),
     }
 }
@@ -45,7 +50,7 @@ fn obeyed<P: Tables>(
     command: &Command,
     rule: &StepRule,
     plant: &mut P,
-) -> anyhow::Result<Reply>
+) -> Result<Reply, Untold>
     requires blocks { HasBlocks command.now }
     requires no_drill { drill_of command.now ≡ None }
     requires works { CanWork (P.seen plant.old) controller.old }
@@ -54,12 +59,12 @@ fn obeyed<P: Tables>(
     match controller.obey(command, rule, plant) {
         Ok(reply) => {
             if reply.closes() {
-                Err(anyhow!("a controller that is closed"))
+                Err(Untold::Plant)
             } else {
                 Ok(reply)
             }
         }
-        Err(_) => Err(anyhow!("no reply")),
+        Err(_) => Err(Untold::Plant),
     }
 }
 
@@ -71,7 +76,7 @@ fn reply_to_next<P: Tables>(
     controller: &mut Controller,
     rule: &StepRule,
     plant: &mut P,
-) -> anyhow::Result<Reply>
+) -> Result<Reply, Untold>
     requires works { CanWork (P.seen plant.old) controller.old }
     ensures works { OnOk result (CanWork (P.seen plant.new) controller.new) }
 {
@@ -86,30 +91,45 @@ fn third_reply<P: Tables>(
     controller: &mut Controller,
     rule: &StepRule,
     plant: &mut P,
-) -> anyhow::Result<Reply>
+) -> Result<Reply, Untold>
     requires works { CanWork (P.seen plant.old) controller.old }
 {
-    let mut lines = LineReader::new(alloc).map_err(wanting)?;
-    let mut source = MemSource::new(alloc, script, &[]).map_err(wanting)?;
+    let mut lines = LineReader::new(alloc)?;
+    let mut source = MemSource::new(alloc, script, &[])?;
     let _first = reply_to_next(alloc, &mut lines, &mut source, controller, rule, plant)?;
     let _second = reply_to_next(alloc, &mut lines, &mut source, controller, rule, plant)?;
     reply_to_next(alloc, &mut lines, &mut source, controller, rule, plant)
 }
 
-/// The reply to the third command of a script, by a controller with that limit over a blank plant.
-fn reply_under(alloc: Global, rule: &StepRule, limit: u64, script: &[u8]) -> anyhow::Result<Reply>
+/// A plant over a folder.
+fn plant_over<F: Folder + Drop>(alloc: Global, folder: F) -> FolderLab<F>
+    requires { ForSome (F.told folder) IsLeft }
+{
+    FolderLab::over(alloc, folder)
+}
+
+/// A plant over a blank folder.
+fn blank_plant(alloc: Global) -> Result<FolderLab<NamedFolder<MemFolder>>, Memory> {
+    match blank(alloc) {
+        Ok(folder) => Ok(plant_over(alloc, NamedFolder::over(alloc, folder))),
+        Err(memory) => Err(memory),
+    }
+}
+
+/// The reply to the third command of a script, by a controller with that limit over such a plant.
+fn reply_under(alloc: Global, rule: &StepRule, limit: u64, script: &[u8]) -> Result<Reply, Untold>
     requires least { 18 ≤ limit }
     requires most { limit ≤ 2 ^ 32 }
 {
-    let mut plant = blank(alloc)?;
+    let mut plant = blank_plant(alloc)?;
     let Ok(mut controller) = Controller::open(alloc, limit, &mut plant) else {
-        return Err(anyhow!("no journal"));
+        return Err(Untold::Plant);
     };
     third_reply(alloc, script, &mut controller, rule, &mut plant)
 }
 
 /// The reply under that limit, by the rule that serves where none is chosen.
-fn reply_within(alloc: Global, limit: u64, script: &[u8]) -> anyhow::Result<Reply>
+fn reply_within(alloc: Global, limit: u64, script: &[u8]) -> Result<Reply, Untold>
     requires least { 18 ≤ limit }
     requires most { limit ≤ 2 ^ 32 }
 {
@@ -127,20 +147,30 @@ fn reply_within(alloc: Global, limit: u64, script: &[u8]) -> anyhow::Result<Repl
         requires { AreParts parts }
         ensures { result ≡ cost_of_parts number parts }
     { parts_cost(number, parts) };
-    let whole: CostFn = Box::new(alloc, by_number)?;
-    let step: StepFn = Box::new(alloc, by_step)?;
-    let parted: PartsFn = Box::new(alloc, by_parts)?;
+    let Ok(whole) = Box::new(alloc, by_number) else {
+        return Err(Untold::Memory);
+    };
+    let Ok(step) = Box::new(alloc, by_step) else {
+        return Err(Untold::Memory);
+    };
+    let Ok(parted) = Box::new(alloc, by_parts) else {
+        return Err(Untold::Memory);
+    };
+    let whole: CostFn = whole;
+    let step: StepFn = step;
+    let parted: PartsFn = parted;
     let rule = StepRule::new(Rule::new(number, whole), step, parted);
     reply_under(alloc, &rule, limit, script)
 }
 
 /// The reply to the third command of a script, where the journal has at most so many bytes.
-pub fn limit(rt: &HostRuntime, bytes: u64, file: &str) -> anyhow::Result<String> {
+pub fn limit(rt: &HostRuntime, bytes: u64, file: &str) -> Result<String, Untold> {
     if bytes < 18 || MOST < bytes {
-        bail!("no limit of a journal");
+        return Err(Untold::Word(Kind::Range));
     }
     let script = script_of(rt, file)?;
     let reply = reply_within(rt.alloc(), bytes, script.as_bytes())?;
-    let text = reply_text(rt.alloc(), &reply).map_err(wanting)?;
-    Ok(String::from_str(rt.alloc(), str::from_utf8(text.bytes())?)?)
+    let text = reply_text(rt.alloc(), &reply);
+    drop(reply);
+    letters_in(rt.alloc(), text?.bytes())
 }

@@ -1,5 +1,5 @@
 use Rattle.mem_folder.specs.MemTold.{held_of}
-use Rattle.rows.proofs.crashes.lost.Goals as goal
+use Rattle.folder_rows.proofs.runs.lost.Goals as goal
 
 pub returns-in-Ok : goal.returns-in-Ok
 returns-in-Ok c =
