@@ -13,7 +13,7 @@ use crate::px::{Place, Px};
 use crate::rows::Rows;
 use crate::tree::forest_of;
 use crate::trunks::{card_of, echo_of, trunks_of};
-use crate::ways::{point, small};
+use crate::ways::small;
 use crate::within::Reach;
 use lab_base::{Items, Memory};
 use lab_picture::{Card, Echo, Geometry, Point};
@@ -62,9 +62,17 @@ fn best_layout(alloc: Global, plan: Plan<'_>) -> Result<Layout, Memory>
     Ok(best)
 }
 
+/// The row of the machine with so many before it; the first one where rows have none.
+fn row_of(number: usize, columns: usize) -> usize {
+    match number.checked_div(columns) {
+        Some(row) => row,
+        None => 0,
+    }
+}
+
 /// Where the machine with so many before it stands in a band with rows of so many.
 fn cell_of(band: Place, columns: usize, cell: Px, number: usize) -> lab_picture::Place {
-    let row = number.checked_div(columns).unwrap_or(0);
+    let row = row_of(number, columns);
     let column = number.saturating_sub(row.saturating_mul(columns));
     small(Place {
         x: band.x + (cell + GAP) * column as u64,
@@ -175,7 +183,38 @@ fn lone_of(plan: Plan<'_>, layout: &Layout) -> Option<Point>
     if plan.rows.lone.is_empty() {
         return None;
     }
-    Some(point(layout.last, layout.lone.y + 24))
+    Some(Point {
+        x: layout.last.small(),
+        y: (layout.lone.y + 24).small(),
+    })
+}
+
+/// A point at measures from the left and from above.
+fn point(x: Px, y: Px) -> Point {
+    Point {
+        x: x.small(),
+        y: y.small(),
+    }
+}
+
+/// How wide the strip of VLAN ids is.
+fn across_of(layout: &Layout) -> Px {
+    layout.wide - MARGIN * 2
+}
+
+/// Where the lists below a layout begin.
+fn lists_top(layout: &Layout) -> Px {
+    layout.high + 10
+}
+
+/// The strip of VLAN ids below a layout, as wide as that.
+fn strip_below(layout: &Layout, across: Px) -> lab_picture::Place {
+    small(Place {
+        x: MARGIN,
+        y: layout.high + 40,
+        wide: across,
+        high: Px(14),
+    })
 }
 
 /// How far a layout reaches with the lists below it.
@@ -184,6 +223,26 @@ fn reach_of(layout: &Layout, view: &View) -> Reach {
         wide: layout.wide.0,
         high: (layout.high + lists_high(view, layout.wide)).0,
     }
+}
+
+/// How large the title and the key are.
+fn scale_of(layout: &Layout) -> u32 {
+    Px(head_scale(layout.wide)).small()
+}
+
+/// Where the title and the key end.
+fn head_of(layout: &Layout) -> u32 {
+    (head_high(layout.wide) - 12).small()
+}
+
+/// Where all that stands above the lists ends.
+fn foot_of(layout: &Layout) -> u32 {
+    (layout.high + 2).small()
+}
+
+/// Where the heading of a list stands, so far below the begin of the lists.
+fn heading(layout: &Layout, below: u64) -> Point {
+    point(MARGIN, lists_top(layout) + below)
 }
 
 /// How many VLAN ids a strip of that width shows: as many as have two pixels each, and at least those up to the last one that is claimed,
@@ -200,6 +259,22 @@ fn shown_ids(view: &View, across: Px) -> usize {
     claimed.max(wide).min(view.owners.len())
 }
 
+/// By VLAN id where it begins on the strip below a layout.
+fn marks_below(alloc: Global, view: &View, layout: &Layout) -> Result<Items<u32>, Memory>
+    ensures { IfOk result (λ marks. length marks ≡ length view.now.owners + 1) }
+{
+    let across = across_of(layout);
+    let shown = shown_ids(view, across);
+    marks_of(alloc, view.owners.len(), shown, across)
+}
+
+/// By experiment its entry below a layout.
+fn entries_below(alloc: Global, view: &View, layout: &Layout) -> Result<Items<Point>, Memory>
+    ensures { IfOk result (λ entries. length entries ≡ length view.now.experiments) }
+{
+    entries_of(alloc, view, layout.wide, lists_top(layout))
+}
+
 /// The picture of a layout, as large as that and the lists below it.
 fn placed(alloc: Global, plan: Plan<'_>, layout: &Layout) -> Result<Geometry, Memory>
     requires { length layout.now.spots.items ≡ length plan.view.now.switches }
@@ -209,33 +284,24 @@ fn placed(alloc: Global, plan: Plan<'_>, layout: &Layout) -> Result<Geometry, Me
     let view = plan.view;
     let trunks = trunks_of(alloc, plan, layout)?;
     let reach = reach_of(layout, view);
-    let across = layout.wide - MARGIN * 2;
-    let shown = shown_ids(view, across);
-    let lists = layout.high + 10;
-    let strip = Place {
-        x: MARGIN,
-        y: lists + 30,
-        wide: across,
-        high: Px(14),
-    };
     Ok(Geometry {
         wide: reach.wide,
         high: reach.high,
-        across: across.small(),
-        scale: Px(head_scale(layout.wide)).small(),
-        head: (head_high(layout.wide) - 12).small(),
-        foot: (layout.high + 2).small(),
+        across: across_of(layout).small(),
+        scale: scale_of(layout),
+        head: head_of(layout),
+        foot: foot_of(layout),
         cards: cards_of(alloc, layout)?,
         echoes: echoes_of(alloc, layout)?,
         lines: Items::from_vec(trunks.lines),
         labels: Items::from_vec(trunks.labels),
         cells: cells_apart(alloc, plan, layout)?,
         lone: lone_of(plan, layout),
-        marks: marks_of(alloc, view.owners.len(), shown, across)?,
-        strip: small(strip),
-        ids: point(MARGIN, lists + 20),
-        list: point(MARGIN, lists + 80),
-        entries: entries_of(alloc, view, layout.wide, lists)?,
+        marks: marks_below(alloc, view, layout)?,
+        strip: strip_below(layout, across_of(layout)),
+        ids: heading(layout, 20),
+        list: heading(layout, 80),
+        entries: entries_below(alloc, view, layout)?,
         second: second(view).small(),
     })
 }

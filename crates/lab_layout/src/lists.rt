@@ -3,7 +3,6 @@ ghost use Rattle.std.specs.Prelude.{◌≡◌, ◌+◌, length, IfOk};
 
 use crate::columns::MARGIN;
 use crate::px::{Px, width};
-use crate::ways::point;
 use lab_base::{Items, Memory};
 use lab_picture::Point;
 use lab_view::View;
@@ -73,7 +72,10 @@ fn entry_at(number: usize, rows: usize, column: Px, top: Px) -> Point {
     let rows = rows.max(1);
     let x = MARGIN + column * (number / rows) as u64;
     let y = top + LIST + ROW * (number % rows) as u64 - 12;
-    point(x, y)
+    Point {
+        x: x.small(),
+        y: y.small(),
+    }
 }
 
 /// By experiment its entry, column by column.

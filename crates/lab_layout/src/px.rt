@@ -51,7 +51,10 @@ impl Div<u64> for Px {
     type Output = Px;
 
     fn div(self, parts: u64) -> Px {
-        Px(self.0.checked_div(parts).unwrap_or(0))
+        match self.0.checked_div(parts) {
+            Some(part) => Px(part),
+            None => Px(0),
+        }
     }
 }
 
@@ -64,11 +67,6 @@ impl Px {
     /// The lesser of two.
     pub(crate) fn min(self, other: Px) -> Px {
         if other.0 < self.0 { other } else { self }
-    }
-
-    /// The measure as a picture has it.
-    pub(crate) fn small(self) -> u32 {
-        self.0.min(4_000_000_000) as u32
     }
 
     /// How far two are apart.
@@ -98,7 +96,10 @@ pub(crate) fn nowhere() -> Place {
 
 /// The measure of that number in a list, 0 beyond its end.
 pub(crate) fn at(list: &[Px], number: usize) -> Px {
-    list.get(number).copied().unwrap_or(Px(0))
+    match list.get(number) {
+        Some(measure) => *measure,
+        None => Px(0),
+    }
 }
 
 /// Makes the measure of that number this one; beyond the list's end there is none.
@@ -117,4 +118,15 @@ pub(crate) fn widen(list: &mut [Px], number: usize, least: Px) {
 /// How wide so many letters of a fixed-width face are, in a size of so many tenths of a pixel: 0.602 of the size each.
 pub(crate) fn width(letters: usize, tenths: u64) -> Px {
     (Px(letters as u64) * tenths * 602 + 9_999) / 10_000
+}
+
+impl Px {
+    /// The measure as a picture has it.
+    pub(crate) fn small(self) -> u32 {
+        if self.0 < 4_000_000_000 {
+            self.0 as u32
+        } else {
+            4_000_000_000
+        }
+    }
 }

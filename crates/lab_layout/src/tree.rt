@@ -50,7 +50,8 @@ fn add_trunk(near: &mut Vec<Items<Near>>, trunk: usize, own: &Trunk) -> Result<(
     let other = own.second;
     add_near(near, own.first, Near { trunk, other })?;
     let other = own.first;
-    add_near(near, own.second, Near { trunk, other })
+    add_near(near, own.second, Near { trunk, other })?;
+    Ok(())
 }
 
 /// By switch its trunks, each with the switch at its other end.
@@ -79,7 +80,10 @@ fn degree(near: &[Items<Near>], switch: usize) -> usize {
 }
 
 fn count_at(counts: &[usize], number: usize) -> usize {
-    counts.get(number).copied().unwrap_or(0)
+    match counts.get(number) {
+        Some(count) => *count,
+        None => 0,
+    }
 }
 
 fn set(counts: &mut [usize], number: usize, count: usize) {
@@ -93,13 +97,19 @@ fn goes(left: &[usize], round: &[usize], switch: usize) -> bool {
     count_at(left, switch) <= 1 && count_at(round, switch) == 0
 }
 
+/// Appends a switch where it goes.
+fn push_where(list: &mut Vec<usize>, goes: bool, switch: usize) -> Result<(), Memory> {
+    if goes {
+        list.push(switch)?;
+    }
+    Ok(())
+}
+
 /// The switches that go in a round: those of at most one trunk to a switch that is left.
 fn going(alloc: Global, left: &[usize], round: &[usize]) -> Result<Vec<usize>, Memory> {
     let mut going = Vec::new(alloc);
     for switch in 0..left.len() {
-        if goes(left, round, switch) {
-            going.push(switch)?;
-        }
+        push_where(&mut going, goes(left, round, switch), switch)?;
     }
     Ok(going)
 }
@@ -112,16 +122,16 @@ fn take_off(near: &[Items<Near>], left: &mut [usize], switch: usize) {
     }
 }
 
-/// Notes switches with the number of their round, and takes them off the counts of their neighbours.
-fn take_all(
-    near: &[Items<Near>],
-    left: &mut [usize],
-    round: &mut [usize],
-    switches: &[usize],
-    number: usize,
-) {
+/// Notes switches with the number of their round.
+fn set_all(round: &mut [usize], switches: &[usize], number: usize) {
     for switch in switches {
         set(round, *switch, number);
+    }
+}
+
+/// Takes switches off the counts of their neighbours.
+fn take_all(near: &[Items<Near>], left: &mut [usize], switches: &[usize]) {
+    for switch in switches {
         take_off(near, left, *switch);
     }
 }
@@ -137,7 +147,8 @@ fn next_round(
     requires { before < length near.now }
 {
     let going = going(alloc, left, round)?;
-    take_all(near, left, round, &going, before + 1);
+    set_all(round, &going, before + 1);
+    take_all(near, left, &going);
     Ok(())
 }
 
@@ -210,7 +221,10 @@ impl Walk {
     }
 
     fn beside(&self, switch: usize, number: usize) -> Option<Near> {
-        near_at(&self.near, switch).get(number).copied()
+        match near_at(&self.near, switch).get(number) {
+            Some(beside) => Some(*beside),
+            None => None,
+        }
     }
 }
 
@@ -224,7 +238,10 @@ impl Forest {
 
     /// The trunk that leads from a switch towards its root.
     pub(crate) fn up(&self, switch: usize) -> Option<usize> {
-        self.branches.get(switch)?.up
+        match self.branches.get(switch) {
+            Some(branch) => branch.up,
+            None => None,
+        }
     }
 
     /// The switches that hang on a switch.

@@ -4,7 +4,7 @@ ghost use Rattle.std.specs.Prelude.{◌≡◌, length, IfOk};
 use crate::columns::BESIDE;
 use crate::layout::{Layout, Plan, Slot, Spot, own_slot};
 use crate::px::{Place, Px};
-use crate::ways::{line_of, middle, point, small, way_of, wide_of};
+use crate::ways::{line_of, middle, small, way_of, wide_of};
 use lab_base::Memory;
 use lab_picture::{Card, Echo, Label, Line, Point, Way};
 use std::alloc::Global;
@@ -13,7 +13,10 @@ use std::alloc::Global;
 pub(crate) fn card_of(place: Place) -> Card {
     Card {
         place: small(place),
-        words: point(place.x + 11, middle(place) - 3),
+        words: Point {
+            x: (place.x + 11).small(),
+            y: (place.y + place.high / 2 - 3).small(),
+        },
     }
 }
 

@@ -35,7 +35,10 @@ fn bent(from: (Px, Px), lane: Px, to: (Px, Px)) -> Way {
         start
     };
     Way {
-        from: point(x, y),
+        from: Point {
+            x: x.small(),
+            y: y.small(),
+        },
         bend: if y == below {
             None
         } else {
@@ -118,14 +121,6 @@ pub(crate) fn line_of(trunk: &Trunk, way: Way) -> Line {
     Line {
         way,
         wide: wide_of(trunk.kbps).small(),
-    }
-}
-
-/// A point at measures from the left and from above.
-pub(crate) fn point(x: Px, y: Px) -> Point {
-    Point {
-        x: x.small(),
-        y: y.small(),
     }
 }
 

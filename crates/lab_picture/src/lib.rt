@@ -3,7 +3,6 @@
 #![tactic(auto)]
 
 mod bars;
-mod drawing;
 mod frame;
 mod geometry;
 mod lists;

@@ -8,14 +8,13 @@ ghost use Rattle.lab_picture.specs.Machines.{coloured};
 ghost use Rattle.lab_picture.specs.Lists.{run_wide, run_area, run_boxes, run_title, run_text, run_of, run_at, ids_words, strip_text, held_of, stand_word, name_class, plural, claim_words, swatch, entry_words, entry_at, list_head, list_text};
 
 use crate::bars::{bar_word, push_coloured, tint_word};
-use crate::drawing::Drawing;
 use crate::geometry::{Geometry, Place, Point, mark_at, point_at};
+use crate::machines::exp_name;
 use crate::shapes::{Area, area_of, push_filled, push_label, push_rect};
 use crate::tags::{Piece, tag};
 use lab_base::{Memory, Text};
 use lab_view::{
-    Exp, Flag, Held, MAX_IDS, Stand, View, begins_run, exp_name, flag_of_exp, free_ids, owner_at,
-    run_length,
+    Exp, Flag, Held, MAX_IDS, Stand, View, begins_run, flag_of_exp, free_ids, owner_at, run_length,
 };
 use std::alloc::Global;
 
@@ -91,58 +90,73 @@ fn push_run_title(
 
 /// A run of VLAN ids that an experiment claims.
 #[tactic(auto, unfolding(crate::specs::Lists::run_text))]
-fn push_run(text: &mut Text, drawing: Drawing<'_>, first: usize, exp: usize) -> Result<(), Memory>
-    requires few { length drawing.view.now.owners ≤ MAX_IDS }
-    requires within { first < length drawing.view.now.owners }
-    requires tints { drawing.tints.now ≡ tints_of drawing.view.now }
-    ensures { OnOk result (text.new ≡ text.old ++ run_text drawing.geometry.now drawing.view.now first (run_length drawing.view.now.owners first) exp) }
+fn push_run(
+    text: &mut Text,
+    geometry: &Geometry,
+    view: &View,
+    tints: &[u8],
+    first: usize,
+    exp: usize,
+) -> Result<(), Memory>
+    requires few { length view.now.owners ≤ MAX_IDS }
+    requires within { first < length view.now.owners }
+    requires tints { tints.now ≡ tints_of view.now }
+    ensures { OnOk result (text.new ≡ text.old ++ run_text geometry.now view.now first (run_length view.now.owners first) exp) }
 {
-    let count = run_length(drawing.view.owners.as_slice(), first);
-    let flag = flag_of_exp(drawing.view, drawing.tints, exp);
-    push_run_title(text, drawing.view, first, count, exp)?;
-    push_boxes(text, drawing.geometry, first, count, flag)?;
+    let count = run_length(view.owners.as_slice(), first);
+    let flag = flag_of_exp(view, tints, exp);
+    push_run_title(text, view, first, count, exp)?;
+    push_boxes(text, geometry, first, count, flag)?;
     text.push_bytes(tag(Piece::GroupEnd))
 }
 
 fn push_run_of(
     text: &mut Text,
-    drawing: Drawing<'_>,
+    geometry: &Geometry,
+    view: &View,
+    tints: &[u8],
     place: usize,
     owner: Option<usize>,
 ) -> Result<(), Memory>
-    requires few { length drawing.view.now.owners ≤ MAX_IDS }
-    requires within { place < length drawing.view.now.owners }
-    requires tints { drawing.tints.now ≡ tints_of drawing.view.now }
-    ensures { OnOk result (text.new ≡ text.old ++ run_of drawing.geometry.now drawing.view.now place owner) }
+    requires few { length view.now.owners ≤ MAX_IDS }
+    requires within { place < length view.now.owners }
+    requires tints { tints.now ≡ tints_of view.now }
+    ensures { OnOk result (text.new ≡ text.old ++ run_of geometry.now view.now place owner) }
 {
     match owner {
-        Some(exp) => push_run(text, drawing, place, exp),
+        Some(exp) => push_run(text, geometry, view, tints, place, exp),
         None => Ok(()),
     }
 }
 
-fn push_run_at(text: &mut Text, drawing: Drawing<'_>, place: usize) -> Result<(), Memory>
-    requires few { length drawing.view.now.owners ≤ MAX_IDS }
-    requires within { place < length drawing.view.now.owners }
-    requires tints { drawing.tints.now ≡ tints_of drawing.view.now }
-    ensures { OnOk result (text.new ≡ text.old ++ run_at drawing.geometry.now drawing.view.now place) }
+fn push_run_at(
+    text: &mut Text,
+    geometry: &Geometry,
+    view: &View,
+    tints: &[u8],
+    place: usize,
+) -> Result<(), Memory>
+    requires few { length view.now.owners ≤ MAX_IDS }
+    requires within { place < length view.now.owners }
+    requires tints { tints.now ≡ tints_of view.now }
+    ensures { OnOk result (text.new ≡ text.old ++ run_at geometry.now view.now place) }
 {
-    let owners = drawing.view.owners.as_slice();
+    let owners = view.owners.as_slice();
     if begins_run(owners, place) {
-        push_run_of(text, drawing, place, owner_at(owners, place))
+        push_run_of(text, geometry, view, tints, place, owner_at(owners, place))
     } else {
         Ok(())
     }
 }
 
 #[tactic(auto, using(lab_base::proofs::Lists::flat_map_range))]
-fn push_runs(text: &mut Text, drawing: Drawing<'_>) -> Result<(), Memory>
-    requires few { length drawing.view.now.owners ≤ MAX_IDS }
-    requires tints { drawing.tints.now ≡ tints_of drawing.view.now }
-    ensures { OnOk result (text.new ≡ text.old ++ flat_map (run_at drawing.geometry.now drawing.view.now) (range_with_len 0 (length drawing.view.now.owners))) }
+fn push_runs(text: &mut Text, geometry: &Geometry, view: &View, tints: &[u8]) -> Result<(), Memory>
+    requires few { length view.now.owners ≤ MAX_IDS }
+    requires tints { tints.now ≡ tints_of view.now }
+    ensures { OnOk result (text.new ≡ text.old ++ flat_map (run_at geometry.now view.now) (range_with_len 0 (length view.now.owners))) }
 {
     for place in 0..view.owners.len() {
-        push_run_at(text, drawing, place)?;
+        push_run_at(text, geometry, view, tints, place)?;
     }
     Ok(())
 }
@@ -163,18 +177,24 @@ fn ids_words(alloc: Global, view: &View) -> Result<Text, Memory>
 
 /// The strip of VLAN ids.
 #[tactic(auto, unfolding(crate::specs::Lists::strip_text))]
-pub(crate) fn push_strip(text: &mut Text, drawing: Drawing<'_>) -> Result<(), Memory>
-    requires few { length drawing.view.now.owners ≤ MAX_IDS }
-    requires tints { drawing.tints.now ≡ tints_of drawing.view.now }
-    ensures { OnOk result (text.new ≡ text.old ++ strip_text drawing.geometry.now drawing.view.now) }
+pub(crate) fn push_strip(
+    alloc: Global,
+    text: &mut Text,
+    geometry: &Geometry,
+    view: &View,
+    tints: &[u8],
+) -> Result<(), Memory>
+    requires few { length view.now.owners ≤ MAX_IDS }
+    requires tints { tints.now ≡ tints_of view.now }
+    ensures { OnOk result (text.new ≡ text.old ++ strip_text geometry.now view.now) }
 {
-    let x = u64::from(drawing.geometry.ids.x);
-    let y = u64::from(drawing.geometry.ids.y);
-    let words = ids_words(drawing.alloc, drawing.view)?;
+    let x = u64::from(geometry.ids.x);
+    let y = u64::from(geometry.ids.y);
+    let words = ids_words(alloc, view)?;
     push_label(text, b"h", x, y, b"VLAN ids")?;
     push_label(text, b"d", x + 84, y, words.bytes())?;
-    push_rect(text, b"strip", area_of(drawing.geometry.strip))?;
-    push_runs(text, drawing)
+    push_rect(text, b"strip", area_of(geometry.strip))?;
+    push_runs(text, geometry, view, tints)
 }
 
 /// How the machines of an experiment are held.
@@ -265,59 +285,72 @@ fn swatch(point: Point) -> Place
 /// The colour of an experiment in the list.
 fn push_colour(
     text: &mut Text,
-    drawing: Drawing<'_>,
+    view: &View,
+    tints: &[u8],
     number: usize,
     stand: Stand,
     point: Point,
 ) -> Result<(), Memory>
-    requires { drawing.tints.now ≡ tints_of drawing.view.now }
-    ensures { OnOk result (text.new ≡ text.old ++ coloured false (flag_of_exp drawing.view.now number) (held_of stand) (swatch point)) }
+    requires { tints.now ≡ tints_of view.now }
+    ensures { OnOk result (text.new ≡ text.old ++ coloured false (flag_of_exp view.now number) (held_of stand) (swatch point)) }
 {
-    let flag = flag_of_exp(drawing.view, drawing.tints, number);
+    let flag = flag_of_exp(view, tints, number);
     push_coloured(text, false, flag, held_of(stand), swatch(point))
 }
 
 /// The name of an experiment in the list, and what it claims.
 #[tactic(auto, unfolding(crate::specs::Lists::entry_words))]
-fn push_words(text: &mut Text, drawing: Drawing<'_>, point: Point, exp: &Exp) -> Result<(), Memory>
-    ensures { OnOk result (text.new ≡ text.old ++ entry_words drawing.geometry.now point exp.now) }
+fn push_words(
+    alloc: Global,
+    text: &mut Text,
+    geometry: &Geometry,
+    point: Point,
+    exp: &Exp,
+) -> Result<(), Memory>
+    ensures { OnOk result (text.new ≡ text.old ++ entry_words geometry.now point exp.now) }
 {
     let x = u64::from(point.x);
     let y = u64::from(point.y) + 12;
-    let words = claim_words(drawing.alloc, exp)?;
+    let words = claim_words(alloc, exp)?;
     push_label(text, name_class(exp.stand), x + 44, y, exp.name.bytes())?;
-    push_label(
-        text,
-        b"k",
-        sum(point.x, drawing.geometry.second),
-        y,
-        words.bytes(),
-    )
+    push_label(text, b"k", sum(point.x, geometry.second), y, words.bytes())
 }
 
 #[tactic(auto, unfolding(crate::specs::Lists::entry_text))]
-fn push_entry_at(text: &mut Text, drawing: Drawing<'_>, number: usize) -> Result<(), Memory>
-    requires { drawing.tints.now ≡ tints_of drawing.view.now }
-    ensures { OnOk result (text.new ≡ text.old ++ entry_at drawing.geometry.now drawing.view.now number) }
+fn push_entry_at(
+    alloc: Global,
+    text: &mut Text,
+    geometry: &Geometry,
+    view: &View,
+    tints: &[u8],
+    number: usize,
+) -> Result<(), Memory>
+    requires { tints.now ≡ tints_of view.now }
+    ensures { OnOk result (text.new ≡ text.old ++ entry_at geometry.now view.now number) }
 {
-    match drawing.view.experiments.as_slice().get(number) {
+    match view.experiments.as_slice().get(number) {
         Some(exp) => {
-            let point = point_at(drawing.geometry.entries.as_slice(), number);
-            push_colour(text, drawing, number, exp.stand, point)?;
-            push_words(text, drawing, point, exp)
+            let point = point_at(geometry.entries.as_slice(), number);
+            push_colour(text, view, tints, number, exp.stand, point)?;
+            push_words(alloc, text, geometry, point, exp)
         }
         None => Ok(()),
     }
 }
 
 #[tactic(auto, using(lab_base::proofs::Lists::flat_map_range))]
-fn push_entries(text: &mut Text, drawing: Drawing<'_>) -> Result<(), Memory>
-    requires { drawing.tints.now ≡ tints_of drawing.view.now }
-    ensures { OnOk result (text.new ≡ text.old ++ flat_map (entry_at drawing.geometry.now drawing.view.now)
-        (range_with_len 0 (length drawing.view.now.experiments))) }
+fn push_entries(
+    alloc: Global,
+    text: &mut Text,
+    geometry: &Geometry,
+    view: &View,
+    tints: &[u8],
+) -> Result<(), Memory>
+    requires { tints.now ≡ tints_of view.now }
+    ensures { OnOk result (text.new ≡ text.old ++ flat_map (entry_at geometry.now view.now) (range_with_len 0 (length view.now.experiments))) }
 {
     for number in 0..view.experiments.len() {
-        push_entry_at(text, drawing, number)?;
+        push_entry_at(alloc, text, geometry, view, tints, number)?;
     }
     Ok(())
 }
@@ -331,17 +364,17 @@ fn list_head() -> &'static [u8]
 
 /// The list of experiments.
 #[tactic(auto, unfolding(crate::specs::Lists::list_text))]
-pub(crate) fn push_list(text: &mut Text, drawing: Drawing<'_>) -> Result<(), Memory>
-    requires { drawing.tints.now ≡ tints_of drawing.view.now }
-    ensures { OnOk result (text.new ≡ text.old ++ list_text drawing.geometry.now drawing.view.now) }
+pub(crate) fn push_list(
+    alloc: Global,
+    text: &mut Text,
+    geometry: &Geometry,
+    view: &View,
+    tints: &[u8],
+) -> Result<(), Memory>
+    requires { tints.now ≡ tints_of view.now }
+    ensures { OnOk result (text.new ≡ text.old ++ list_text geometry.now view.now) }
 {
-    let x = u64::from(drawing.geometry.list.x);
-    push_label(
-        text,
-        b"h",
-        x,
-        u64::from(drawing.geometry.list.y),
-        list_head(),
-    )?;
-    push_entries(text, drawing)
+    let x = u64::from(geometry.list.x);
+    push_label(text, b"h", x, u64::from(geometry.list.y), list_head())?;
+    push_entries(alloc, text, geometry, view, tints)
 }

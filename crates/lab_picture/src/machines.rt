@@ -1,18 +1,50 @@
 // Machines, as they are drawn.
 ghost use Rattle.std.specs.Prelude.{◌≡◌, ◌++◌, ◌<◌, ◌==◌, nat_le, length, map, flat_map, slice_get, IfOk, OnOk};
 ghost use Rattle.std.specs.List.{list_any, range_with_len};
+ghost use Rattle.lab_view.specs.Views.{switch_name, exp_name};
+ghost use Rattle.lab_view.specs.Lines.{spaced};
 ghost use Rattle.lab_view.specs.Flags.{tints_of};
 ghost use Rattle.lab_picture.specs.Shapes.{fitted};
 ghost use Rattle.lab_picture.specs.Machines.{names_text, first_name, listed, letters_in, type_words, plug_at, holder_words, tip, free_body, held_words, body, first_of, is_one, corner, corner_of, held_class, class_of, machine_text, machine_at};
 
 use crate::bars::push_coloured;
-use crate::drawing::Drawing;
-use crate::geometry::{Place, place_at};
+use crate::geometry::{Geometry, Place, place_at};
 use crate::shapes::{area_of, push_fitted, push_label, push_rect};
 use crate::tags::{Piece, tag};
 use lab_base::{Items, Memory, Name, Text};
-use lab_view::{Held, Machine, Seat, View, exp_name, flag_of_exp, push_spaced, switch_name};
+use lab_view::{Held, Machine, Seat, View, flag_of_exp};
 use std::alloc::Global;
+
+/// The name of an experiment, none of a number that names nothing.
+pub(crate) fn exp_name(view: &View, exp: usize) -> &[u8]
+    ensures { result.now ≡ exp_name view.now exp }
+{
+    match view.experiments.as_slice().get(exp) {
+        Some(own) => own.name.bytes(),
+        None => &[],
+    }
+}
+
+/// The name of a switch, none of a number that names nothing.
+pub(crate) fn switch_name(view: &View, switch: usize) -> &[u8]
+    ensures { result.now ≡ switch_name view.now switch }
+{
+    match view.switches.as_slice().get(switch) {
+        Some(name) => name.bytes(),
+        None => &[],
+    }
+}
+
+/// A blank before each name.
+fn push_spaced(text: &mut Text, names: &[Name]) -> Result<(), Memory>
+    ensures { OnOk result (text.new ≡ text.old ++ flat_map spaced names.now) }
+{
+    for name in names {
+        text.push(b' ')?;
+        text.push_bytes(name.bytes())?;
+    }
+    Ok(())
+}
 
 /// Names one behind another.
 fn names_text(alloc: Global, names: &[Name]) -> Result<Text, Memory>
@@ -178,26 +210,19 @@ fn fitted(alloc: Global, name: &[u8], most: usize) -> Result<Text, Memory>
 /// The name of a machine, the experiment that holds it, and the virtual nodes there.
 #[tactic(auto, unfolding(crate::specs::Machines::held_words))]
 fn push_words(
+    alloc: Global,
     text: &mut Text,
-    drawing: Drawing<'_>,
+    view: &View,
     place: Place,
     machine: &Machine,
     seat: &Seat,
 ) -> Result<(), Memory>
-    ensures { OnOk result (text.new ≡ text.old ++ held_words drawing.view.now place machine.now seat.now) }
+    ensures { OnOk result (text.new ≡ text.old ++ held_words view.now place machine.now seat.now) }
 {
     let x = u64::from(place.x) + 14;
     let y = u64::from(place.y);
-    let name = fitted(
-        drawing.alloc,
-        exp_name(drawing.view, seat.exp),
-        letters_in(place.wide),
-    )?;
-    let guests = listed(
-        drawing.alloc,
-        seat.guests.as_slice(),
-        letters_in(place.wide),
-    )?;
+    let name = fitted(alloc, exp_name(view, seat.exp), letters_in(place.wide))?;
+    let guests = listed(alloc, seat.guests.as_slice(), letters_in(place.wide))?;
     push_label(text, b"m", x, y + 14, machine.name.bytes())?;
     push_label(text, b"e", x, y + 26, name.bytes())?;
     push_label(text, b"v", x, y + 38, guests.bytes())
@@ -206,20 +231,22 @@ fn push_words(
 /// A machine, in the colour of the experiment that holds it, by the tints of first machines.
 #[tactic(auto, unfolding(crate::specs::Machines::body, crate::specs::Machines::held_body))]
 fn push_body(
+    alloc: Global,
     text: &mut Text,
-    drawing: Drawing<'_>,
+    view: &View,
+    tints: &[u8],
     place: Place,
     machine: &Machine,
 ) -> Result<(), Memory>
-    requires { drawing.tints.now ≡ tints_of drawing.view.now }
-    ensures { OnOk result (text.new ≡ text.old ++ body drawing.view.now place machine.now machine.now.seat) }
+    requires { tints.now ≡ tints_of view.now }
+    ensures { OnOk result (text.new ≡ text.old ++ body view.now place machine.now machine.now.seat) }
 {
     match &machine.seat {
-        None => push_free(drawing.alloc, text, place, machine),
+        None => push_free(alloc, text, place, machine),
         Some(seat) => {
-            let flag = flag_of_exp(drawing.view, drawing.tints, seat.exp);
+            let flag = flag_of_exp(view, tints, seat.exp);
             push_coloured(text, true, flag, seat.held, place)?;
-            push_words(text, drawing, place, machine, seat)
+            push_words(alloc, text, view, place, machine, seat)
         }
     }
 }
@@ -283,41 +310,55 @@ fn class_of(seat: &Option<Seat>) -> &'static [u8]
 
 /// A machine, with the words that a pointer over it shows.
 fn push_machine(
+    alloc: Global,
     text: &mut Text,
-    drawing: Drawing<'_>,
+    view: &View,
+    tints: &[u8],
     place: Place,
     machine: &Machine,
 ) -> Result<(), Memory>
-    requires { drawing.tints.now ≡ tints_of drawing.view.now }
-    ensures { OnOk result (text.new ≡ text.old ++ machine_text drawing.view.now place machine.now) }
+    requires { tints.now ≡ tints_of view.now }
+    ensures { OnOk result (text.new ≡ text.old ++ machine_text view.now place machine.now) }
 {
     text.push_bytes(class_of(&machine.seat))?;
-    push_tip(text, drawing.view, machine)?;
-    push_body(text, drawing, place, machine)?;
+    push_tip(text, view, machine)?;
+    push_body(alloc, text, view, tints, place, machine)?;
     push_corner_of(text, place, machine.plugs.as_slice())?;
     text.push_bytes(tag(Piece::GroupEnd))
 }
 
-fn push_machine_at(text: &mut Text, drawing: Drawing<'_>, number: usize) -> Result<(), Memory>
-    requires { drawing.tints.now ≡ tints_of drawing.view.now }
-    ensures { OnOk result (text.new ≡ text.old ++ machine_at drawing.geometry.now drawing.view.now number) }
+fn push_machine_at(
+    alloc: Global,
+    text: &mut Text,
+    geometry: &Geometry,
+    view: &View,
+    tints: &[u8],
+    number: usize,
+) -> Result<(), Memory>
+    requires { tints.now ≡ tints_of view.now }
+    ensures { OnOk result (text.new ≡ text.old ++ machine_at geometry.now view.now number) }
 {
-    let place = place_at(drawing.geometry.cells.as_slice(), number);
-    match drawing.view.machines.as_slice().get(number) {
-        Some(machine) => push_machine(text, drawing, place, machine),
+    let place = place_at(geometry.cells.as_slice(), number);
+    match view.machines.as_slice().get(number) {
+        Some(machine) => push_machine(alloc, text, view, tints, place, machine),
         None => Ok(()),
     }
 }
 
 /// All machines.
 #[tactic(auto, using(lab_base::proofs::Lists::flat_map_range))]
-pub(crate) fn push_machines(text: &mut Text, drawing: Drawing<'_>) -> Result<(), Memory>
-    requires { drawing.tints.now ≡ tints_of drawing.view.now }
-    ensures { OnOk result (text.new ≡ text.old ++ flat_map (machine_at drawing.geometry.now drawing.view.now)
-        (range_with_len 0 (length drawing.view.now.machines))) }
+pub(crate) fn push_machines(
+    alloc: Global,
+    text: &mut Text,
+    geometry: &Geometry,
+    view: &View,
+    tints: &[u8],
+) -> Result<(), Memory>
+    requires { tints.now ≡ tints_of view.now }
+    ensures { OnOk result (text.new ≡ text.old ++ flat_map (machine_at geometry.now view.now) (range_with_len 0 (length view.now.machines))) }
 {
     for number in 0..view.machines.len() {
-        push_machine_at(text, drawing, number)?;
+        push_machine_at(alloc, text, geometry, view, tints, number)?;
     }
     Ok(())
 }

@@ -3,7 +3,6 @@ ghost use Rattle.std.specs.Prelude.{◌≡◌, ◌++◌, ◌≤◌, length, IfOk
 ghost use Rattle.lab_view.specs.Flags.{tints_of};
 ghost use Rattle.lab_picture.specs.Pictures.{is_in, is_out, moves, count_in, so_many, title_words, parts_words, stands_words, title, rule, size_text, sheet, scaled, head_text, lone_text, lab_text, picture};
 
-use crate::drawing::Drawing;
 use crate::frame::{KEY, STYLE};
 use crate::geometry::{Geometry, Point};
 use crate::lists::{push_list, push_plural, push_strip};
@@ -180,17 +179,24 @@ fn push_scaled(text: &mut Text, geometry: &Geometry) -> Result<(), Memory>
 
 /// The size of the picture, its style, its title, and the key to how things are drawn.
 #[tactic(auto, unfolding(crate::specs::Pictures::head_text))]
-fn push_head(text: &mut Text, drawing: Drawing<'_>, style: &[u8], key: &[u8]) -> Result<(), Memory>
-    ensures { OnOk result (text.new ≡ text.old ++ head_text style.now key.now drawing.geometry.now drawing.view.now) }
+fn push_head(
+    alloc: Global,
+    text: &mut Text,
+    style: &[u8],
+    key: &[u8],
+    geometry: &Geometry,
+    view: &View,
+) -> Result<(), Memory>
+    ensures { OnOk result (text.new ≡ text.old ++ head_text style.now key.now geometry.now view.now) }
 {
-    push_size(text, drawing.geometry)?;
+    push_size(text, geometry)?;
     text.push_bytes(style)?;
-    push_filled(text, b"#fff", b"bare", sheet(drawing.geometry))?;
-    push_scaled(text, drawing.geometry)?;
-    push_title(drawing.alloc, text, drawing.view)?;
+    push_filled(text, b"#fff", b"bare", sheet(geometry))?;
+    push_scaled(text, geometry)?;
+    push_title(alloc, text, view)?;
     text.push_bytes(key)?;
     text.push_bytes(tag(Piece::GroupEnd))?;
-    push_rule(text, drawing.geometry, drawing.geometry.head)
+    push_rule(text, geometry, geometry.head)
 }
 
 /// The heading of machines without an interface.
@@ -208,15 +214,21 @@ fn push_lone(text: &mut Text, lone: &Option<Point>) -> Result<(), Memory>
 
 /// All that stands in the lab.
 #[tactic(auto, unfolding(crate::specs::Pictures::lab_text))]
-fn push_lab(text: &mut Text, drawing: Drawing<'_>) -> Result<(), Memory>
-    requires { drawing.tints.now ≡ tints_of drawing.view.now }
-    ensures { OnOk result (text.new ≡ text.old ++ lab_text drawing.geometry.now drawing.view.now) }
+fn push_lab(
+    alloc: Global,
+    text: &mut Text,
+    geometry: &Geometry,
+    view: &View,
+    tints: &[u8],
+) -> Result<(), Memory>
+    requires { tints.now ≡ tints_of view.now }
+    ensures { OnOk result (text.new ≡ text.old ++ lab_text geometry.now view.now) }
 {
-    push_trunks(text, drawing)?;
-    push_switches(text, drawing)?;
-    push_machines(text, drawing)?;
-    push_labels(text, drawing)?;
-    push_lone(text, &drawing.geometry.lone)
+    push_trunks(text, geometry, view)?;
+    push_switches(alloc, text, geometry, view)?;
+    push_machines(alloc, text, geometry, view, tints)?;
+    push_labels(alloc, text, geometry, view)?;
+    push_lone(text, &geometry.lone)
 }
 
 /// The picture with a style and a key.
@@ -233,18 +245,12 @@ fn draw_with(
 {
     let tints = tints_of(alloc, view)?;
     let tints = tints.as_slice();
-    let drawing = Drawing {
-        alloc,
-        geometry,
-        view,
-        tints,
-    };
     let mut text = Text::new(alloc);
-    push_head(&mut text, drawing, style, key)?;
-    push_lab(&mut text, drawing)?;
+    push_head(alloc, &mut text, style, key, geometry, view)?;
+    push_lab(alloc, &mut text, geometry, view, tints)?;
     push_rule(&mut text, geometry, geometry.foot)?;
-    push_strip(&mut text, drawing)?;
-    push_list(&mut text, drawing)?;
+    push_strip(alloc, &mut text, geometry, view, tints)?;
+    push_list(alloc, &mut text, geometry, view, tints)?;
     text.push_bytes(tag(Piece::PictureEnd))?;
     Ok(text)
 }

@@ -3,12 +3,12 @@ ghost use Rattle.std.specs.Prelude.{◌≡◌, ◌++◌, length, flat_map, IfOk,
 ghost use Rattle.std.specs.List.{range_with_len};
 ghost use Rattle.lab_picture.specs.Switches.{counted, count_words, card_text, card_in, echo_text, echo_of, echo_at, switch_at};
 
-use crate::drawing::Drawing;
-use crate::geometry::{Card, Echo};
+use crate::geometry::{Card, Echo, Geometry};
+use crate::machines::switch_name;
 use crate::shapes::{area_of, push_area, push_label, push_way};
 use crate::tags::{Piece, tag};
 use lab_base::{Memory, Text};
-use lab_view::{View, count_under, free_under, switch_name};
+use lab_view::{View, count_under, free_under};
 use std::alloc::Global;
 
 fn push_counted(text: &mut Text, free: usize, count: usize) -> Result<(), Memory>
@@ -59,12 +59,18 @@ fn push_card(
     push_label(text, b"c", x, y + 15, words)
 }
 
-fn push_card_in(text: &mut Text, drawing: Drawing<'_>, switch: usize) -> Result<(), Memory>
-    ensures { OnOk result (text.new ≡ text.old ++ card_in drawing.view.now switch (slice_get drawing.geometry.now.cards switch)) }
+fn push_card_in(
+    alloc: Global,
+    text: &mut Text,
+    geometry: &Geometry,
+    view: &View,
+    switch: usize,
+) -> Result<(), Memory>
+    ensures { OnOk result (text.new ≡ text.old ++ card_in view.now switch (slice_get geometry.now.cards switch)) }
 {
-    let words = count_words(drawing.alloc, drawing.view, switch)?;
-    match drawing.geometry.cards.as_slice().get(switch) {
-        Some(card) => push_card(text, b"card", words.bytes(), drawing.view, switch, card),
+    let words = count_words(alloc, view, switch)?;
+    match geometry.cards.as_slice().get(switch) {
+        Some(card) => push_card(text, b"card", words.bytes(), view, switch, card),
         None => Ok(()),
     }
 }
@@ -100,30 +106,45 @@ fn push_echo_in(
     }
 }
 
-fn push_echo_at(text: &mut Text, drawing: Drawing<'_>, switch: usize) -> Result<(), Memory>
-    ensures { OnOk result (text.new ≡ text.old ++ echo_at drawing.geometry.now drawing.view.now switch) }
+fn push_echo_at(
+    text: &mut Text,
+    geometry: &Geometry,
+    view: &View,
+    switch: usize,
+) -> Result<(), Memory>
+    ensures { OnOk result (text.new ≡ text.old ++ echo_at geometry.now view.now switch) }
 {
-    match drawing.geometry.echoes.as_slice().get(switch) {
-        Some(echo) => push_echo_in(text, drawing.view, switch, echo),
+    match geometry.echoes.as_slice().get(switch) {
+        Some(echo) => push_echo_in(text, view, switch, echo),
         None => Ok(()),
     }
 }
 
-fn push_switch_at(text: &mut Text, drawing: Drawing<'_>, switch: usize) -> Result<(), Memory>
-    ensures { OnOk result (text.new ≡ text.old ++ switch_at drawing.geometry.now drawing.view.now switch) }
+fn push_switch_at(
+    alloc: Global,
+    text: &mut Text,
+    geometry: &Geometry,
+    view: &View,
+    switch: usize,
+) -> Result<(), Memory>
+    ensures { OnOk result (text.new ≡ text.old ++ switch_at geometry.now view.now switch) }
 {
-    push_card_in(text, drawing, switch)?;
-    push_echo_at(text, drawing, switch)
+    push_card_in(alloc, text, geometry, view, switch)?;
+    push_echo_at(text, geometry, view, switch)
 }
 
 /// All switches.
 #[tactic(auto, using(lab_base::proofs::Lists::flat_map_range))]
-pub(crate) fn push_switches(text: &mut Text, drawing: Drawing<'_>) -> Result<(), Memory>
-    ensures { OnOk result (text.new ≡ text.old ++ flat_map (switch_at drawing.geometry.now drawing.view.now)
-        (range_with_len 0 (length drawing.view.now.switches))) }
+pub(crate) fn push_switches(
+    alloc: Global,
+    text: &mut Text,
+    geometry: &Geometry,
+    view: &View,
+) -> Result<(), Memory>
+    ensures { OnOk result (text.new ≡ text.old ++ flat_map (switch_at geometry.now view.now) (range_with_len 0 (length view.now.switches))) }
 {
     for switch in 0..view.switches.len() {
-        push_switch_at(text, drawing, switch)?;
+        push_switch_at(alloc, text, geometry, view, switch)?;
     }
     Ok(())
 }

@@ -3,13 +3,12 @@ ghost use Rattle.std.specs.Prelude.{◌≡◌, ◌++◌, ◌≤◌, length, flat
 ghost use Rattle.std.specs.List.{range_with_len};
 ghost use Rattle.lab_picture.specs.Trunks.{use_words, case_text, core_wide, core_text, core_of, pipe, lined, trunk_at, ended, labelled, label_at};
 
-use crate::drawing::Drawing;
 use crate::geometry::{Geometry, Line};
 use crate::shapes::{push_field, push_way};
 use crate::speeds::{MAX_FULL, heat, push_tenths, push_use, thousandths};
 use crate::tags::{Piece, tag};
 use lab_base::{Memory, Text};
-use lab_view::Trunk;
+use lab_view::{Trunk, View};
 use std::alloc::Global;
 
 #[tactic(auto, unfolding(crate::specs::Trunks::case_text))]
@@ -81,22 +80,27 @@ fn push_lined(
     }
 }
 
-fn push_trunk_at(text: &mut Text, drawing: Drawing<'_>, number: usize) -> Result<(), Memory>
-    ensures { OnOk result (text.new ≡ text.old ++ trunk_at drawing.geometry.now drawing.view.now number) }
+fn push_trunk_at(
+    text: &mut Text,
+    geometry: &Geometry,
+    view: &View,
+    number: usize,
+) -> Result<(), Memory>
+    ensures { OnOk result (text.new ≡ text.old ++ trunk_at geometry.now view.now number) }
 {
-    match drawing.view.trunks.as_slice().get(number) {
-        Some(trunk) => push_lined(text, drawing.geometry, number, trunk),
+    match view.trunks.as_slice().get(number) {
+        Some(trunk) => push_lined(text, geometry, number, trunk),
         None => Ok(()),
     }
 }
 
 /// All trunks.
 #[tactic(auto, using(lab_base::proofs::Lists::flat_map_range))]
-pub(crate) fn push_trunks(text: &mut Text, drawing: Drawing<'_>) -> Result<(), Memory>
-    ensures { OnOk result (text.new ≡ text.old ++ flat_map (trunk_at drawing.geometry.now drawing.view.now) (range_with_len 0 (length drawing.view.now.trunks))) }
+pub(crate) fn push_trunks(text: &mut Text, geometry: &Geometry, view: &View) -> Result<(), Memory>
+    ensures { OnOk result (text.new ≡ text.old ++ flat_map (trunk_at geometry.now view.now) (range_with_len 0 (length view.now.trunks))) }
 {
     for number in 0..view.trunks.len() {
-        push_trunk_at(text, drawing, number)?;
+        push_trunk_at(text, geometry, view, number)?;
     }
     Ok(())
 }
@@ -124,16 +128,17 @@ fn use_text(alloc: Global, trunk: &Trunk) -> Result<Text, Memory>
 }
 
 fn push_labelled(
+    alloc: Global,
     text: &mut Text,
-    drawing: Drawing<'_>,
+    geometry: &Geometry,
     number: usize,
     trunk: &Trunk,
 ) -> Result<(), Memory>
-    ensures { OnOk result (text.new ≡ text.old ++ labelled (slice_get drawing.geometry.now.labels number) trunk.now) }
+    ensures { OnOk result (text.new ≡ text.old ++ labelled (slice_get geometry.now.labels number) trunk.now) }
 {
-    match drawing.geometry.labels.as_slice().get(number) {
+    match geometry.labels.as_slice().get(number) {
         Some(label) => {
-            let used = use_text(drawing.alloc, trunk)?;
+            let used = use_text(alloc, trunk)?;
             push_ended(text, b"u", label.x, label.name, trunk.link.bytes())?;
             push_ended(text, b"w", label.x, label.used, used.bytes())
         }
@@ -141,22 +146,33 @@ fn push_labelled(
     }
 }
 
-fn push_label_at(text: &mut Text, drawing: Drawing<'_>, number: usize) -> Result<(), Memory>
-    ensures { OnOk result (text.new ≡ text.old ++ label_at drawing.geometry.now drawing.view.now number) }
+fn push_label_at(
+    alloc: Global,
+    text: &mut Text,
+    geometry: &Geometry,
+    view: &View,
+    number: usize,
+) -> Result<(), Memory>
+    ensures { OnOk result (text.new ≡ text.old ++ label_at geometry.now view.now number) }
 {
-    match drawing.view.trunks.as_slice().get(number) {
-        Some(trunk) => push_labelled(text, drawing, number, trunk),
+    match view.trunks.as_slice().get(number) {
+        Some(trunk) => push_labelled(alloc, text, geometry, number, trunk),
         None => Ok(()),
     }
 }
 
 /// The labels of all trunks.
 #[tactic(auto, using(lab_base::proofs::Lists::flat_map_range))]
-pub(crate) fn push_labels(text: &mut Text, drawing: Drawing<'_>) -> Result<(), Memory>
-    ensures { OnOk result (text.new ≡ text.old ++ flat_map (label_at drawing.geometry.now drawing.view.now) (range_with_len 0 (length drawing.view.now.trunks))) }
+pub(crate) fn push_labels(
+    alloc: Global,
+    text: &mut Text,
+    geometry: &Geometry,
+    view: &View,
+) -> Result<(), Memory>
+    ensures { OnOk result (text.new ≡ text.old ++ flat_map (label_at geometry.now view.now) (range_with_len 0 (length view.now.trunks))) }
 {
     for number in 0..view.trunks.len() {
-        push_label_at(text, drawing, number)?;
+        push_label_at(alloc, text, geometry, view, number)?;
     }
     Ok(())
 }

@@ -11,6 +11,6 @@ mod view;
 pub use counts::{count_under, free_ids, free_machines, free_under, home_of};
 pub use flags::{Flag, MAX_FLAGS, TINTS, flag_of, flag_of_exp, tints_of};
 pub use laws::{experiments_differ, flags_differ, flags_stay, tints_differ};
-pub use lines::{exp_name, lines_of, push_spaced, switch_name};
+pub use lines::lines_of;
 pub use runs::{begins_run, owner_at, run_length};
 pub use view::{Exp, Held, MAX_IDS, Machine, Seat, Stand, Trunk, View};

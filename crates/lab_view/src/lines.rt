@@ -22,33 +22,30 @@ fn held_word(held: Held) -> &'static str
     }
 }
 
-/// The name of an experiment, none of a number that names nothing.
-pub fn exp_name(view: &View, exp: usize) -> &[u8]
-    ensures { result.now ≡ exp_name view.now exp }
+fn push_exp(text: &mut Text, view: &View, exp: usize) -> Result<(), Memory>
+    ensures { OnOk result (text.new ≡ text.old ++ exp_name view.now exp) }
 {
     match view.experiments.as_slice().get(exp) {
-        Some(own) => own.name.bytes(),
-        None => &[],
+        Some(own) => text.push_bytes(own.name.bytes()),
+        None => Ok(()),
     }
 }
 
-/// The name of a switch, none of a number that names nothing.
-pub fn switch_name(view: &View, switch: usize) -> &[u8]
-    ensures { result.now ≡ switch_name view.now switch }
+fn push_switch_name(text: &mut Text, view: &View, switch: usize) -> Result<(), Memory>
+    ensures { OnOk result (text.new ≡ text.old ++ switch_name view.now switch) }
 {
     match view.switches.as_slice().get(switch) {
-        Some(name) => name.bytes(),
-        None => &[],
+        Some(name) => text.push_bytes(name.bytes()),
+        None => Ok(()),
     }
 }
 
-/// A blank before each name.
-pub fn push_spaced(text: &mut Text, names: &[Name]) -> Result<(), Memory>
-    ensures { OnOk result (text.new ≡ text.old ++ flat_map spaced names.now) }
+fn push_guests(text: &mut Text, guests: &[Name]) -> Result<(), Memory>
+    ensures { OnOk result (text.new ≡ text.old ++ flat_map spaced guests.now) }
 {
-    for name in names {
+    for guest in guests {
         text.push(b' ')?;
-        text.push_bytes(name.bytes())?;
+        text.push_bytes(guest.bytes())?;
     }
     Ok(())
 }
@@ -60,8 +57,8 @@ fn push_seat(text: &mut Text, view: &View, seat: &Option<Seat>) -> Result<(), Me
         None => text.push_bytes(b" free"),
         Some(seat) => {
             text.push_bytes(held_word(seat.held).as_bytes())?;
-            text.push_bytes(exp_name(view, seat.exp))?;
-            push_spaced(text, seat.guests.as_slice())
+            push_exp(text, view, seat.exp)?;
+            push_guests(text, seat.guests.as_slice())
         }
     }
 }
@@ -100,7 +97,7 @@ fn push_switch(text: &mut Text, view: &View, switch: usize) -> Result<(), Memory
     ensures { OnOk result (text.new ≡ text.old ++ switch_lines view.now switch) }
 {
     text.push_bytes(b"switch ")?;
-    text.push_bytes(switch_name(view, switch))?;
+    push_switch_name(text, view, switch)?;
     text.push(b' ')?;
     text.push_number(free_under(view, switch) as u64)?;
     text.push_bytes(b" of ")?;
@@ -176,7 +173,7 @@ fn push_end(text: &mut Text, view: &View, switch: usize) -> Result<(), Memory>
     ensures { OnOk result (text.new ≡ text.old ++ 32 ∷ [] ++ switch_name view.now switch) }
 {
     text.push(b' ')?;
-    text.push_bytes(switch_name(view, switch))
+    push_switch_name(text, view, switch)
 }
 
 /// The kbps that nobody claims of a trunk.

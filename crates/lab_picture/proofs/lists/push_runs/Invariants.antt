@@ -4,4 +4,4 @@ use Rattle.lab_picture.specs.Lists.{run_at}
 use Rattle.lab_picture.proofs.lists.push_runs.Given as goal
 
 abbrev pub invariant-loop-place : goal.invariant-loop-place
-invariant-loop-place l = l.text ≡ l.initial.text ++ flat_map (run_at l.drawing.geometry.now l.drawing.view.now) (range_with_len 0 l.place)
+invariant-loop-place l = l.text ≡ l.initial.text ++ flat_map (run_at l.geometry l.view) (range_with_len 0 l.place)

@@ -4,4 +4,4 @@ use Rattle.lab_picture.specs.Switches.{switch_at}
 use Rattle.lab_picture.proofs.switches.push_switches.Given as goal
 
 abbrev pub invariant-loop-switch : goal.invariant-loop-switch
-invariant-loop-switch l = l.text ≡ l.initial.text ++ flat_map (switch_at l.drawing.geometry.now l.drawing.view.now) (range_with_len 0 l.switch)
+invariant-loop-switch l = l.text ≡ l.initial.text ++ flat_map (switch_at l.geometry l.view) (range_with_len 0 l.switch)

@@ -4,4 +4,4 @@ use Rattle.lab_picture.specs.Trunks.{trunk_at}
 use Rattle.lab_picture.proofs.trunks.push_trunks.Given as goal
 
 abbrev pub invariant-loop-number : goal.invariant-loop-number
-invariant-loop-number l = l.text ≡ l.initial.text ++ flat_map (trunk_at l.drawing.geometry.now l.drawing.view.now) (range_with_len 0 l.number)
+invariant-loop-number l = l.text ≡ l.initial.text ++ flat_map (trunk_at l.geometry l.view) (range_with_len 0 l.number)
