@@ -1,4 +1,4 @@
--- What two sides of a journal are read as, by values.
+-- Two sides of a journal, and what they are read as, by values.
 use Rattle.std.specs.Prelude.{◌≡◌, ℕ, List, [], ◌∷◌, ◌++◌, codes}
 use Rattle.std.proofs.Common.{refl}
 use Rattle.std.proofs.lemmas.Bool.{ltb-true, leb-true}

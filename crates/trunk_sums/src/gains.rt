@@ -88,7 +88,7 @@ impl Gains {
         to & apart & self.onto_takes | from & apart & self.off_takes
     }
 
-    /// What a plug more or less of a link does, once one of its two plugs went from some first sides to others. By trunk one of three words has a bit: that
+    /// The change that a plug more or less of a link makes, once one of its two plugs went from some first sides to others. By trunk one of three words has a bit: that
     /// of the trunks with none of the plugs on the first side, of those with one, or of those with both.
     #[inline(always)]
     pub(crate) fn of_link(&self, from: u64, to: u64) -> Gains
