@@ -88,8 +88,8 @@ impl Gains {
         to & apart & self.onto_takes | from & apart & self.off_takes
     }
 
-    /// The change that a plug more or less of a link makes, once one of its two plugs went from some first sides to others. By trunk one of three words has a bit: that
-    /// of the trunks with none of the plugs on the first side, of those with one, or of those with both.
+    /// The change that a plug more or less of a link makes, once one of its two plugs went from some first sides to others. By trunk one of three words has
+    /// a bit: that of the trunks with none of the plugs on the first side, of those with one, or of those with both.
     #[inline(always)]
     pub(crate) fn of_link(&self, from: u64, to: u64) -> Gains
         ensures { (k on t : ℕ) → IsGain 2 k t self.now → k ≤ 2 → on ≤ 2 → bit_at from t ≤ k → on + bit_at from t ≡ k + bit_at to t → IsGain 2 on t result }
