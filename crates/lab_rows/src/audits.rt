@@ -1,14 +1,54 @@
 //! Audits of devices that another hand commanded.
 use crate::records::state_of;
-use crate::row::Row;
 use crate::steps::ops_of;
+use crate::texts::Texts;
 use lab_audit::{AuditFault, audit};
-use lab_base::{Items, Kind, Memory, Text, parted};
+use lab_base::{Kind, Memory, Name, Text, VlanId};
+use lab_state::LabState;
 use plant::{DeviceOp, Plant};
 use plant_mem::MemLab;
-use row_words::{Untold, at_bar};
-use script_text::{AuditLine, Reply, reply_text};
+use row_words::{Untold, at_bar, push_number};
+use script_text::AuditLine;
 use std::alloc::Global;
+
+/// Adds a word, a switch, a port and a VLAN id.
+fn push_row(
+    out: &mut Text,
+    word: &[u8],
+    switch: &Name,
+    port: u16,
+    vlan: VlanId,
+) -> Result<(), Memory> {
+    out.push_bytes(word)?;
+    out.push_bytes(switch.bytes())?;
+    push_number(out, u64::from(port))?;
+    push_number(out, u64::from(vlan.0))
+}
+
+fn push_line(out: &mut Text, line: &AuditLine) -> Result<(), Memory> {
+    match line {
+        AuditLine::Lacks { switch, port, vlan } => push_row(out, b"lacks ", switch, *port, *vlan)?,
+        AuditLine::Strange { switch, port, vlan } => push_row(
+            out,
+            b"strange ",
+            switch,
+            *port,
+            *vlan,
+        )?,
+        AuditLine::Node { node } => {
+            out.push_bytes(b"node ")?;
+            out.push_bytes(node.bytes())?;
+        }
+    }
+    out.push(b'\n')
+}
+
+fn push_lines(out: &mut Text, lines: &[AuditLine]) -> Result<(), Memory> {
+    for line in lines {
+        push_line(out, line)?;
+    }
+    out.push_number(lines.len() as u64)
+}
 
 /// A plant in memory that was sent commands.
 fn plant_of(alloc: Global, ops: &[DeviceOp]) -> Result<MemLab, Memory> {
@@ -19,25 +59,28 @@ fn plant_of(alloc: Global, ops: &[DeviceOp]) -> Result<MemLab, Memory> {
     Ok(plant)
 }
 
-/// Adds the lines of the reply to an audit, and how many there are.
-fn push_audit(out: &mut Text, alloc: Global, lines: Items<AuditLine>) -> Result<(), Memory> {
-    let count = lines.len() as u64;
-    let reply = reply_text(alloc, &Reply::Audit { lines })?;
-    if let Some(parts) = parted(reply.bytes(), b'\n') {
-        out.push_bytes(parts.behind)?;
-    }
-    out.push_number(count)
-}
-
-/// In what devices differ, to which the commands behind a bar were sent, from the lab of the records before it.
-pub fn tell(out: &mut Text, row: Row<'_>) -> Result<(), Untold> {
-    let halves = at_bar(row.words);
-    let state = state_of(row, halves.before)?;
-    let ops = ops_of(row, halves.behind)?;
-    let mut plant = plant_of(row.alloc, ops.as_slice())?;
-    match audit(row.alloc, &state, &mut plant) {
-        Ok(lines) => Ok(push_audit(out, row.alloc, lines)?),
+/// Adds what an audit tells.
+fn push_audit(
+    out: &mut Text,
+    alloc: Global,
+    state: &LabState,
+    plant: &mut MemLab,
+) -> Result<(), Untold> {
+    match audit(alloc, state, plant) {
+        Ok(report) => Ok(push_lines(out, report.as_slice())?),
         Err(AuditFault::Unread(_)) => Err(Untold::Word(Kind::Missing)),
         Err(AuditFault::Memory) => Err(Untold::Memory),
     }
+}
+
+/// In what devices differ, to which the commands behind a bar were sent, from the lab of the records before it.
+pub fn tell(out: &mut Text, alloc: Global, texts: &Texts, words: &[&[u8]]) -> Result<(), Untold> {
+    let halves = at_bar(words);
+    let state = state_of(alloc, texts, halves.before)?;
+    let ops = ops_of(alloc, texts, halves.behind)?;
+    let mut plant = plant_of(alloc, ops.as_slice())?;
+    let told = push_audit(out, alloc, &state, &mut plant);
+    drop(plant);
+    drop(state);
+    told
 }

@@ -1,13 +1,14 @@
 //! Labs and wirings, part by part.
 ghost use Rattle.std.specs.Prelude.{◌<◌, length};
 
-use crate::row::Row;
-use lab_base::{Memory, SwitchId, Text, TrunkId};
-use line_text::name_at;
+use crate::reading::{lab_of, wiring_of};
+use crate::texts::Texts;
+use lab_base::{Items, Memory, SwitchId, Text, TrunkId};
+use line_text::{field_at, name_at};
 use phys_lab::{Lab, LabBuilder, LabFault, MAX_SWITCHES, MAX_TRUNKS, Trunk};
 use row_words::{Untold, number_at, parts_of, push_number};
 use std::alloc::Global;
-use virt_topo::{Wiring, WiringFault};
+use virt_topo::{VirtNode, Wiring, WiringFault};
 
 /// The trunk that parts say: its name, and the switch and the port of both ends.
 fn trunk_of(parts: &[&[u8]]) -> Result<Trunk, Untold> {
@@ -57,13 +58,16 @@ fn push_counts(out: &mut Text, lab: &Lab) -> Result<(), Memory> {
 }
 
 /// Adds the outcome of each word, and the numbers of trunks and switches that the lab then has.
-pub fn tell(out: &mut Text, row: Row<'_>) -> Result<(), Untold> {
-    let Ok(mut builder) = LabBuilder::new(row.alloc, 2, 4_094) else {
+pub fn tell(out: &mut Text, alloc: Global, words: &[&[u8]]) -> Result<(), Untold> {
+    let Ok(mut builder) = LabBuilder::new(alloc, 2, 4_094) else {
         return Err(Untold::Memory);
     };
-    push_added(out, row.alloc, &mut builder, row.words)?;
+    let added = push_added(out, alloc, &mut builder, words);
     let lab = builder.finish()?;
-    Ok(push_counts(out, &lab)?)
+    let counted = push_counts(out, &lab);
+    drop(lab);
+    added?;
+    Ok(counted?)
 }
 
 /// Adds for each switch whether it is on the first side of a trunk.
@@ -77,13 +81,24 @@ fn push_side(out: &mut Text, lab: &Lab, trunk: TrunkId) -> Result<(), Memory>
     out.push(b'\n')
 }
 
-/// For each trunk of a lab, for each switch, whether it is on the first side.
-pub fn tell_sides(out: &mut Text, row: Row<'_>) -> Result<(), Untold> {
-    let lab = row.lab(0)?;
+fn push_sides(out: &mut Text, lab: &Lab) -> Result<(), Memory> {
     for trunk in 0..lab.trunks().len().min(MAX_TRUNKS) as u16 {
-        push_side(out, &lab, TrunkId(trunk))?;
+        push_side(out, lab, TrunkId(trunk))?;
     }
     Ok(())
+}
+
+/// For each trunk of a lab, for each switch, whether it is on the first side.
+pub fn tell_sides(
+    out: &mut Text,
+    alloc: Global,
+    texts: &Texts,
+    words: &[&[u8]],
+) -> Result<(), Untold> {
+    let lab = lab_of(alloc, texts, field_at(words, 0))?;
+    let told = push_sides(out, &lab);
+    drop(lab);
+    Ok(told?)
 }
 
 fn push_checked(out: &mut Text, wiring: &Wiring) -> Result<(), Memory> {
@@ -94,13 +109,55 @@ fn push_checked(out: &mut Text, wiring: &Wiring) -> Result<(), Memory> {
     })
 }
 
-/// The check of a wiring, and of it with the nodes of another one.
-pub fn tell_check(out: &mut Text, row: Row<'_>) -> Result<(), Untold> {
-    let mut wiring = row.wiring(0)?;
-    push_checked(out, &wiring)?;
-    let Wiring { nodes, .. } = row.wiring(1)?;
+fn add_nodes(wiring: &mut Wiring, nodes: Items<VirtNode>) -> Result<(), Memory> {
     for node in nodes.into_vec() {
         wiring.nodes.push(node)?;
     }
-    Ok(push_checked(out, &wiring)?)
+    Ok(())
+}
+
+/// Adds the check of a copy of a wiring with further nodes.
+fn push_with(
+    out: &mut Text,
+    alloc: Global,
+    wiring: &Wiring,
+    nodes: Items<VirtNode>,
+) -> Result<(), Memory> {
+    let mut copy = wiring.copy(alloc)?;
+    let added = add_nodes(&mut copy, nodes);
+    let told = push_checked(out, &copy);
+    drop(copy);
+    added?;
+    told
+}
+
+/// The nodes of a wiring.
+fn nodes_of(alloc: Global, texts: &Texts, name: &[u8]) -> Result<Items<VirtNode>, Untold> {
+    let Wiring { nodes, .. } = wiring_of(alloc, texts, name)?;
+    Ok(nodes)
+}
+
+/// Adds the check of a wiring, and that of one with the nodes of another wiring too.
+fn push_both(
+    out: &mut Text,
+    alloc: Global,
+    texts: &Texts,
+    wiring: &Wiring,
+    more: &[u8],
+) -> Result<(), Untold> {
+    push_checked(out, wiring)?;
+    Ok(push_with(out, alloc, wiring, nodes_of(alloc, texts, more)?)?)
+}
+
+/// The check of a wiring, and of a copy of it with the nodes of another one.
+pub fn tell_check(
+    out: &mut Text,
+    alloc: Global,
+    texts: &Texts,
+    words: &[&[u8]],
+) -> Result<(), Untold> {
+    let wiring = wiring_of(alloc, texts, field_at(words, 0))?;
+    let told = push_both(out, alloc, texts, &wiring, field_at(words, 1));
+    drop(wiring);
+    told
 }

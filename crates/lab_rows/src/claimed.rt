@@ -3,9 +3,11 @@ ghost use Rattle.std.specs.Prelude.{◌≡◌, ◌<◌, ◌∷◌, [], length, I
 ghost use Rattle.claims.specs.Held.{claim_nodes, claim_tags, others};
 ghost use Rattle.claims.specs.Adding.{HasUses, MayAdd};
 
-use crate::row::Row;
+use crate::reading::lab_of;
+use crate::texts::Texts;
 use claims::{Claim, Claims, Hold, TakeFault};
 use lab_base::{IfaceId, Items, Memory, Name, NodeId, Tags, Text, VlanId, name_in};
+use line_text::field_at;
 use phys_lab::Lab;
 use row_words::{Untold, number, push_answer, push_number};
 use std::alloc::Global;
@@ -51,13 +53,25 @@ fn put(claims: &mut Claims, exp: Name, claim: Claim, notes: bool) -> Result<(), 
 /// No claim on a lab of two nodes and of the VLAN ids 100 and 101 but that one, which is added or noted.
 fn with_one(alloc: Global, lab: &Lab, exp: Name, notes: bool) -> Result<Claims, Memory> {
     let claim = both_nodes(alloc)?;
-    let mut claims = Claims::empty(alloc, lab)?;
+    let mut claims = match Claims::empty(alloc, lab) {
+        Ok(claims) => claims,
+        Err(memory) => {
+            drop(claim);
+            return Err(memory);
+        }
+    };
     let range = lab.range();
     if range.0 != 100 || range.1 != 101 || lab.nodes().len() != 2 || !lab.trunks().is_empty() {
+        drop(claim);
         return Ok(claims);
     }
-    put(&mut claims, exp, claim, notes)?;
-    Ok(claims)
+    match put(&mut claims, exp, claim, notes) {
+        Ok(()) => Ok(claims),
+        Err(memory) => {
+            drop(claims);
+            Err(memory)
+        }
+    }
 }
 
 /// Adds how many nodes and VLAN ids there are.
@@ -95,29 +109,55 @@ fn push_all(out: &mut Text, alloc: Global, claims: &mut Claims, exp: Name) -> Re
     push_counts(out, claims.counted())
 }
 
+/// Adds the counts of a free lab, and those with a claim.
+fn push_claims(out: &mut Text, alloc: Global, lab: &Lab, exp: Name) -> Result<(), Memory> {
+    let none = Claims::empty(alloc, lab)?;
+    let counted = none.counted();
+    drop(none);
+    push_counts(out, counted)?;
+    let mut claims = with_one(alloc, lab, exp, false)?;
+    let told = push_all(out, alloc, &mut claims, exp);
+    drop(claims);
+    told
+}
+
 /// The counts of a free lab, and those with a claim.
-pub fn tell(out: &mut Text, row: Row<'_>) -> Result<(), Untold> {
+pub fn tell(out: &mut Text, alloc: Global, texts: &Texts, words: &[&[u8]]) -> Result<(), Untold> {
     let exp = name_in(b"e")?;
-    let lab = row.lab(0)?;
-    push_counts(out, Claims::empty(row.alloc, &lab)?.counted())?;
-    let mut claims = with_one(row.alloc, &lab, exp, false)?;
-    Ok(push_all(out, row.alloc, &mut claims, exp)?)
+    let lab = lab_of(alloc, texts, field_at(words, 0))?;
+    let told = push_claims(out, alloc, &lab, exp);
+    drop(lab);
+    Ok(told?)
 }
 
 /// The VLAN ids of words behind the first one.
-fn tags_of(row: Row<'_>) -> Result<Tags, Untold> {
-    let mut tags = Items::new(row.alloc);
-    for word in row.rest(1) {
+fn tags_of(alloc: Global, words: &[&[u8]]) -> Result<Tags, Untold> {
+    let mut tags = Items::new(alloc);
+    for word in words.iter().skip(1) {
         tags.push(VlanId(number(word)?))?;
     }
     Ok(tags)
 }
 
-/// The nodes, kbps and VLAN ids left beside a noted claim, and whether VLAN ids are free.
-pub fn tell_free(out: &mut Text, row: Row<'_>) -> Result<(), Untold> {
-    let tags = tags_of(row)?;
-    let lab = row.lab(0)?;
-    let claims = with_one(row.alloc, &lab, name_in(b"e")?, true)?;
+fn push_free(out: &mut Text, claims: &Claims, tags: &Tags) -> Result<(), Memory> {
     push_counts(out, claims.counted())?;
-    Ok(push_answer(out, claims.are_free(&tags))?)
+    push_answer(out, claims.are_free(tags))
+}
+
+/// The nodes, kbps and VLAN ids left beside a noted claim, and whether VLAN ids are free.
+pub fn tell_free(
+    out: &mut Text,
+    alloc: Global,
+    texts: &Texts,
+    words: &[&[u8]],
+) -> Result<(), Untold> {
+    let exp = name_in(b"e")?;
+    let tags = tags_of(alloc, words)?;
+    let lab = lab_of(alloc, texts, field_at(words, 0))?;
+    let claims = with_one(alloc, &lab, exp, true);
+    drop(lab);
+    let claims = claims?;
+    let told = push_free(out, &claims, &tags);
+    drop(claims);
+    Ok(told?)
 }

@@ -6,6 +6,9 @@
 //! build PART..                what comes of switches and trunks that are added to a lab, and how many trunks and switches it has then
 //! sides LAB                   by trunk, which switches are on its first side
 //! check TOP TOP               the check of a wiring, and of one with the nodes of another too
+//! isolated LAB TEXT WORD..    whether a world is isolated: rows `s1:1:100`, pipes `pipe:a:e0:e1`, and what is wanted `e:new:l:s1:1:100`
+//! world LAB EXP.. | COMMAND.. whether the experiments' claims hold, and the world is isolated and cabled, where the mappings suit the lab;
+//!                             a command behind a `!` was not applied
 //! follow RECORD..             whether each record can follow, and what it leaves of the first trunk; and how many experiments there are then
 //! replay RECORD RECORD RECORD how many experiments three records give, or the number of the first that can't follow
 //! pack RECORD.. | RECORD..    whether the lab of some records is packed into others
@@ -22,49 +25,124 @@
 //! free LAB VLAN..             what is left beside a claim, and whether VLAN ids are
 //! rule LAB TOP MAP TAKEN LEFT the rule that a mapping breaks, with its subject
 //! ```
+//!
+//! The experiments of a world are named with the plans by which they stand, `e:E`, or between which they move, `e:E>F`. A plan is a text: the
+//! name of a wiring, numbers of nodes with types, and numbers of interfaces and VLAN ids.
 #![tactic(auto)]
 
 mod audits;
 mod builds;
 mod claimed;
+mod isolation;
 mod plans;
 mod promises;
+mod reading;
 mod records;
-mod row;
 mod rules;
 mod steps;
 mod texts;
 mod waits;
+mod worlds;
 
 use lab_base::{Kind, Text, fields_in};
-use row::Row;
 use row_words::Untold;
 use std::alloc::Global;
 pub use texts::Texts;
 use texts::keep_line;
 
-/// Adds the output of a row of that kind.
-fn tell(out: &mut Text, kind: &str, row: Row<'_>) -> Result<(), Untold> {
+/// Adds the output of a row about labs and worlds; true where it is one.
+fn tell_of_worlds(
+    out: &mut Text,
+    alloc: Global,
+    texts: &Texts,
+    kind: &str,
+    words: &[&[u8]],
+) -> Result<bool, Untold> {
     match kind {
-        "build" => builds::tell(out, row),
-        "sides" => builds::tell_sides(out, row),
-        "check" => builds::tell_check(out, row),
-        "follow" => records::tell(out, row),
-        "replay" => records::tell_three(out, row),
-        "pack" => records::tell_packed(out, row),
-        "audit" => audits::tell(out, row),
-        "fit" => promises::tell_fit(out, row),
-        "batch" => promises::tell_batch(out, row),
-        "moments" => promises::tell_moments(out, row),
-        "needs" => promises::tell_needs(out, row),
-        "left" => promises::tell_left(out, row),
-        "wait" => waits::tell(out, row),
-        "plan" => plans::tell(out, row),
-        "claims" => claimed::tell(out, row),
-        "free" => claimed::tell_free(out, row),
-        "rule" => rules::tell(out, row),
-        _ => Err(Untold::Word(Kind::Unknown)),
+        "build" => builds::tell(out, alloc, words)?,
+        "sides" => builds::tell_sides(out, alloc, texts, words)?,
+        "check" => builds::tell_check(out, alloc, texts, words)?,
+        "isolated" => isolation::tell(out, alloc, texts, words)?,
+        "world" => worlds::tell(out, alloc, texts, words)?,
+        _ => return Ok(false),
     }
+    Ok(true)
+}
+
+/// Adds the output of a row about records; true where it is one.
+fn tell_of_records(
+    out: &mut Text,
+    alloc: Global,
+    texts: &Texts,
+    kind: &str,
+    words: &[&[u8]],
+) -> Result<bool, Untold> {
+    match kind {
+        "follow" => records::tell(out, alloc, texts, words)?,
+        "replay" => records::tell_three(out, alloc, texts, words)?,
+        "pack" => records::tell_packed(out, alloc, texts, words)?,
+        "audit" => audits::tell(out, alloc, texts, words)?,
+        _ => return Ok(false),
+    }
+    Ok(true)
+}
+
+/// Adds the output of a row about promises; true where it is one.
+fn tell_of_promises(
+    out: &mut Text,
+    alloc: Global,
+    texts: &Texts,
+    kind: &str,
+    words: &[&[u8]],
+) -> Result<bool, Untold> {
+    match kind {
+        "fit" => promises::tell_fit(out, alloc, texts, words)?,
+        "moments" => promises::tell_moments(out, alloc, texts, words)?,
+        "needs" => promises::tell_needs(out, alloc, texts, words)?,
+        "left" => promises::tell_left(out, alloc, words)?,
+        "wait" => waits::tell(out, alloc, texts, words)?,
+        _ => return Ok(false),
+    }
+    Ok(true)
+}
+
+/// Adds the output of a row about mappings; true where it is one.
+fn tell_of_mappings(
+    out: &mut Text,
+    alloc: Global,
+    texts: &Texts,
+    kind: &str,
+    words: &[&[u8]],
+) -> Result<bool, Untold> {
+    match kind {
+        "plan" => plans::tell(out, alloc, texts, words)?,
+        "claims" => claimed::tell(out, alloc, texts, words)?,
+        "free" => claimed::tell_free(out, alloc, texts, words)?,
+        "rule" => rules::tell(out, alloc, texts, words)?,
+        _ => return Ok(false),
+    }
+    Ok(true)
+}
+
+/// Adds the output of a row; true where it is one.
+fn tell_row(
+    out: &mut Text,
+    alloc: Global,
+    texts: &Texts,
+    kind: &str,
+    letters: &[u8],
+) -> Result<bool, Untold> {
+    if kind == "batch" {
+        promises::tell_batch(out, alloc, letters)?;
+        return Ok(true);
+    }
+    let words = fields_in(alloc, letters)?;
+    Ok(
+        tell_of_worlds(out, alloc, texts, kind, &words)?
+            || tell_of_records(out, alloc, texts, kind, &words)?
+            || tell_of_promises(out, alloc, texts, kind, &words)?
+            || tell_of_mappings(out, alloc, texts, kind, &words)?,
+    )
 }
 
 /// The output of a line; None of one that keeps a text.
@@ -73,15 +151,9 @@ pub fn told(alloc: Global, texts: &mut Texts, line: &str) -> Result<Option<Text>
         return Ok(None);
     }
     let (kind, letters) = line.split_once(' ').unwrap_or((line, ""));
-    let letters = letters.as_bytes();
-    let words = fields_in(alloc, letters)?;
-    let row = Row {
-        alloc,
-        texts,
-        letters,
-        words: &words,
-    };
     let mut out = Text::new(alloc);
-    tell(&mut out, kind, row)?;
+    if !tell_row(&mut out, alloc, texts, kind, letters.as_bytes())? {
+        return Err(Untold::Word(Kind::Unknown));
+    }
     Ok(Some(out))
 }

@@ -1,10 +1,11 @@
 //! Promises made in advance.
-use crate::row::{MAX_TEXT, Row};
+use crate::reading::{MAX_TEXT, lab_of};
+use crate::texts::Texts;
 use lab_ahead::{Batch, Fit, Left, Need, fits, left_at, moments, needs_at, read_batch};
 use lab_base::{Items, Kind, Memory, Name, NodeId, Text, name_in};
-use line_text::{push_field, push_numbered};
+use line_text::{field_at, push_field, push_numbered};
 use phys_lab::Lab;
-use row_words::{Untold, number, pair_of, push_number, push_numbers, text_of};
+use row_words::{Untold, number, number_at, pair_of, push_number, push_numbers, text_of};
 use std::alloc::Global;
 
 /// The type of a word, and how many nodes of it are needed.
@@ -55,46 +56,71 @@ fn push_fit(out: &mut Text, fit: &Fit) -> Result<(), Memory> {
 }
 
 /// The nodes that two needs are given, or the types that are short.
-pub fn tell_fit(out: &mut Text, row: Row<'_>) -> Result<(), Untold> {
-    let needs = [need_of(row.word(1))?, need_of(row.word(2))?];
-    let lab = row.lab(0)?;
-    let found = fit(row.alloc, &lab, &needs)?;
-    Ok(push_fit(out, &found)?)
+pub fn tell_fit(
+    out: &mut Text,
+    alloc: Global,
+    texts: &Texts,
+    words: &[&[u8]],
+) -> Result<(), Untold> {
+    let needs = [need_of(field_at(words, 1))?, need_of(field_at(words, 2))?];
+    let lab = lab_of(alloc, texts, field_at(words, 0))?;
+    let found = fit(alloc, &lab, &needs);
+    drop(lab);
+    Ok(push_fit(out, &found?)?)
 }
 
-/// How many promises and runs a batch has.
-pub fn tell_batch(out: &mut Text, row: Row<'_>) -> Result<(), Untold> {
-    let text = text_of(row.alloc, row.letters)?;
+/// The batch of a text.
+pub(crate) fn batch_of(alloc: Global, text: &[u8]) -> Result<Batch, Untold> {
     if text.len() > MAX_TEXT {
         return Err(Untold::Memory);
     }
-    let batch = read_batch(row.alloc, text.bytes())?;
-    push_number(out, batch.promises.len() as u64)?;
-    Ok(push_number(out, batch.runs.len() as u64)?)
+    Ok(read_batch(alloc, text)?)
 }
 
-/// The batch of a text that a word names.
-pub(crate) fn batch_of(row: Row<'_>, at: usize) -> Result<Batch, Untold> {
-    Ok(read_batch(row.alloc, row.text(at)?)?)
+/// How many promises and runs a batch has.
+pub fn tell_batch(out: &mut Text, alloc: Global, letters: &[u8]) -> Result<(), Untold> {
+    let text = text_of(alloc, letters)?;
+    let batch = batch_of(alloc, text.bytes())?;
+    let (promises, runs) = (batch.promises.len(), batch.runs.len());
+    drop(batch);
+    push_number(out, promises as u64)?;
+    Ok(push_number(out, runs as u64)?)
 }
 
 /// The moments at which a run that begins so late and takes so long is tested against the promises of a batch.
-pub fn tell_moments(out: &mut Text, row: Row<'_>) -> Result<(), Untold> {
-    let (now, length) = (u64::from(row.number(1)?), u64::from(row.number(2)?));
-    let batch = batch_of(row, 0)?;
-    let tested = moments(row.alloc, batch.promises.as_slice(), now, length)?;
-    Ok(push_numbers(out, tested.as_slice())?)
+pub fn tell_moments(
+    out: &mut Text,
+    alloc: Global,
+    texts: &Texts,
+    words: &[&[u8]],
+) -> Result<(), Untold> {
+    let now = u64::from(number_at(words, 1)?);
+    let length = u64::from(number_at(words, 2)?);
+    let batch = batch_of(alloc, texts.of(field_at(words, 0))?)?;
+    let tested = moments(alloc, batch.promises.as_slice(), now, length);
+    drop(batch);
+    Ok(push_numbers(out, tested?.as_slice())?)
 }
 
-/// The needs of a batch's promises at a moment.
-pub fn tell_needs(out: &mut Text, row: Row<'_>) -> Result<(), Untold> {
-    let at = u64::from(row.number(1)?);
-    let batch = batch_of(row, 0)?;
-    let needs = needs_at(row.alloc, batch.promises.as_slice(), at)?;
-    for need in needs.as_slice() {
+fn push_needs(out: &mut Text, needs: &[Need]) -> Result<(), Memory> {
+    for need in needs {
         push_numbered(out, &need.kind, u64::from(need.count))?;
     }
     Ok(())
+}
+
+/// The needs of a batch's promises at a moment.
+pub fn tell_needs(
+    out: &mut Text,
+    alloc: Global,
+    texts: &Texts,
+    words: &[&[u8]],
+) -> Result<(), Untold> {
+    let at = u64::from(number_at(words, 1)?);
+    let batch = batch_of(alloc, texts.of(field_at(words, 0))?)?;
+    let needs = needs_at(alloc, batch.promises.as_slice(), at);
+    drop(batch);
+    Ok(push_needs(out, needs?.as_slice())?)
 }
 
 /// The node of a word, and the moment from which it is left.
@@ -106,14 +132,20 @@ fn left_of(word: &[u8]) -> Result<Left, Untold> {
     })
 }
 
-/// The nodes that are left at a moment.
-pub fn tell_left(out: &mut Text, row: Row<'_>) -> Result<(), Untold> {
-    let mut left = Items::new(row.alloc);
-    for word in row.rest(1) {
+/// The nodes of words behind the first one.
+fn lefts_of(alloc: Global, words: &[&[u8]]) -> Result<Items<Left>, Untold> {
+    let mut left = Items::new(alloc);
+    for word in words.iter().skip(1) {
         left.push(left_of(word)?)?;
     }
-    let at = u64::from(row.number(0)?);
-    for node in left_at(row.alloc, left.as_slice(), at)?.as_slice() {
+    Ok(left)
+}
+
+/// The nodes that are left at a moment.
+pub fn tell_left(out: &mut Text, alloc: Global, words: &[&[u8]]) -> Result<(), Untold> {
+    let at = u64::from(number_at(words, 0)?);
+    let left = lefts_of(alloc, words)?;
+    for node in left_at(alloc, left.as_slice(), at)?.as_slice() {
         push_number(out, u64::from(node.0))?;
     }
     Ok(())

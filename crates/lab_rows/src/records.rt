@@ -2,11 +2,11 @@
 ghost use Rattle.std.specs.Prelude.{IfOk};
 ghost use Rattle.journal_rec.specs.Payloads.{IsRecord};
 
-use crate::row::Row;
 use crate::texts::Texts;
-use journal_rec::{Found, Record, decode};
+use journal_rec::{Found, Packed, Record, decode};
 use lab_base::{Kind, Memory, Text, TrunkId};
 use lab_state::{LabState, PrepareFault, ReplayFault};
+use line_text::field_at;
 use row_words::{Untold, at_bar, push_answer, push_number};
 use std::alloc::Global;
 
@@ -14,7 +14,10 @@ use std::alloc::Global;
 fn record_of(alloc: Global, payload: &[u8]) -> Result<Record, Untold>
     ensures { IfOk result IsRecord }
 {
-    Ok(decode(alloc, payload)?)
+    match decode(alloc, payload) {
+        Ok(record) => Ok(record),
+        Err(fault) => Err(Untold::from(fault)),
+    }
 }
 
 /// Enters a record; tells whether it can follow.
@@ -34,7 +37,9 @@ fn follows(state: &mut LabState, entry: &Record) -> Result<bool, Untold>
 /// Enters the record of a text; tells whether it can follow.
 fn enters(alloc: Global, texts: &Texts, state: &mut LabState, name: &[u8]) -> Result<bool, Untold> {
     let entry = record_of(alloc, texts.of(name)?)?;
-    follows(state, &entry)
+    let follows = follows(state, &entry);
+    drop(entry);
+    follows
 }
 
 /// Adds the kbps that the claims leave of the first trunk, if there is one.
@@ -48,36 +53,115 @@ fn push_left(out: &mut Text, state: &LabState) -> Result<(), Memory> {
     out.push(b'\n')
 }
 
-/// Whether records can follow one another, each with what is left then, and how many experiments there are at the end.
-pub fn tell(out: &mut Text, row: Row<'_>) -> Result<(), Untold> {
-    let mut state = LabState::new(row.alloc);
-    for name in row.words {
+/// Enters records, and adds whether each can follow, with what is left then, and how many experiments there are at the end.
+fn push_all(
+    out: &mut Text,
+    alloc: Global,
+    texts: &Texts,
+    state: &mut LabState,
+    names: &[&[u8]],
+) -> Result<(), Untold> {
+    for name in names {
         out.push_bytes(name)?;
-        push_answer(out, enters(row.alloc, row.texts, &mut state, name)?)?;
-        push_left(out, &state)?;
+        push_answer(out, enters(alloc, texts, state, name)?)?;
+        push_left(out, state)?;
     }
-    Ok(out.push_number(state.len() as u64)?)
+    out.push_number(state.len() as u64)?;
+    Ok(())
 }
 
-/// The record of a word's text, found at that place.
-fn found(row: Row<'_>, word: usize, at: u64) -> Result<Found, Untold>
-    ensures { IfOk result (λ found. IsRecord found.entry) }
+/// Whether records can follow one another.
+pub fn tell(out: &mut Text, alloc: Global, texts: &Texts, words: &[&[u8]]) -> Result<(), Untold> {
+    let mut state = LabState::new(alloc);
+    let told = push_all(out, alloc, texts, &mut state, words);
+    drop(state);
+    told
+}
+
+/// How many experiments three records give, or the number of the first that can't follow.
+fn replayed(
+    alloc: Global,
+    first: Record,
+    second: Record,
+    third: Record,
+) -> Result<usize, ReplayFault>
+    requires first { IsRecord first }
+    requires second { IsRecord second }
+    requires third { IsRecord third }
 {
-    let entry = record_of(row.alloc, row.text(word)?)?;
-    Ok(Found { at, entry })
+    let records = [
+        Found {
+            at: 17,
+            entry: first,
+        },
+        Found {
+            at: 200,
+            entry: second,
+        },
+        Found {
+            at: 300,
+            entry: third,
+        },
+    ];
+    let replayed = LabState::replay(alloc, &records);
+    drop(records);
+    match replayed {
+        Ok(state) => {
+            let count = state.len();
+            drop(state);
+            Ok(count)
+        }
+        Err(fault) => Err(fault),
+    }
 }
 
-/// The outcome of replaying three records: how many experiments they give, or the number of the first that can't follow.
-pub fn tell_three(out: &mut Text, row: Row<'_>) -> Result<(), Untold> {
-    let records = [found(row, 0, 17)?, found(row, 1, 200)?, found(row, 2, 300)?];
-    match LabState::replay(row.alloc, &records) {
-        Ok(state) => Ok(out.push_number(state.len() as u64)?),
+/// The outcome of replaying a record and two payloads.
+fn replayed_behind(
+    alloc: Global,
+    first: Record,
+    second: &[u8],
+    third: &[u8],
+) -> Result<Result<usize, ReplayFault>, Untold>
+    requires { IsRecord first }
+{
+    let second = match record_of(alloc, second) {
+        Ok(second) => second,
+        Err(wrong) => {
+            drop(first);
+            return Err(wrong);
+        }
+    };
+    match record_of(alloc, third) {
+        Ok(third) => Ok(replayed(alloc, first, second, third)),
+        Err(wrong) => {
+            drop(first);
+            drop(second);
+            Err(wrong)
+        }
+    }
+}
+
+fn push_replayed(out: &mut Text, replayed: Result<usize, ReplayFault>) -> Result<(), Memory> {
+    match replayed {
+        Ok(count) => out.push_number(count as u64),
         Err(ReplayFault::Bad { index }) => {
             out.push_bytes(b"bad")?;
-            Ok(push_number(out, index as u64)?)
+            push_number(out, index as u64)
         }
-        Err(ReplayFault::Memory) => Err(Untold::Memory),
+        Err(ReplayFault::Memory) => Err(Memory),
     }
+}
+
+/// The outcome of replaying three records.
+pub fn tell_three(
+    out: &mut Text,
+    alloc: Global,
+    texts: &Texts,
+    words: &[&[u8]],
+) -> Result<(), Untold> {
+    let (second, third) = (texts.of(field_at(words, 1))?, texts.of(field_at(words, 2))?);
+    let first = record_of(alloc, texts.of(field_at(words, 0))?)?;
+    Ok(push_replayed(out, replayed_behind(alloc, first, second, third)?)?)
 }
 
 /// Adds a payload behind its open gate.
@@ -98,21 +182,53 @@ fn gates_of(alloc: Global, texts: &Texts, names: &[&[u8]]) -> Result<Text, Untol
     Ok(bytes)
 }
 
-/// The lab that the records of texts give.
-pub fn state_of(row: Row<'_>, names: &[&[u8]]) -> Result<LabState, Untold> {
-    let mut state = LabState::new(row.alloc);
+/// Enters the records of texts.
+fn enter_all(
+    alloc: Global,
+    texts: &Texts,
+    state: &mut LabState,
+    names: &[&[u8]],
+) -> Result<(), Untold> {
     for name in names {
-        if !enters(row.alloc, row.texts, &mut state, name)? {
+        if !enters(alloc, texts, state, name)? {
             return Err(Untold::Word(Kind::Missing));
         }
     }
-    Ok(state)
+    Ok(())
+}
+
+/// The lab that the records of texts give.
+pub fn state_of(alloc: Global, texts: &Texts, names: &[&[u8]]) -> Result<LabState, Untold> {
+    let mut state = LabState::new(alloc);
+    match enter_all(alloc, texts, &mut state, names) {
+        Ok(()) => Ok(state),
+        Err(wrong) => {
+            drop(state);
+            Err(wrong)
+        }
+    }
+}
+
+/// The lab that the records of texts give, packed.
+fn packed_of(alloc: Global, texts: &Texts, names: &[&[u8]]) -> Result<Packed, Untold> {
+    let mut state = LabState::new(alloc);
+    let entered = enter_all(alloc, texts, &mut state, names);
+    let packed = state.pack();
+    drop(state);
+    entered?;
+    Ok(packed?)
 }
 
 /// Whether the lab that records before a bar give is packed into those behind it.
-pub fn tell_packed(out: &mut Text, row: Row<'_>) -> Result<(), Untold> {
-    let halves = at_bar(row.words);
-    let packed = state_of(row, halves.before)?.pack()?;
-    let wanted = gates_of(row.alloc, row.texts, halves.behind)?;
-    Ok(push_answer(out, packed.bytes() == wanted.bytes())?)
+pub fn tell_packed(
+    out: &mut Text,
+    alloc: Global,
+    texts: &Texts,
+    words: &[&[u8]],
+) -> Result<(), Untold> {
+    let halves = at_bar(words);
+    let packed = packed_of(alloc, texts, halves.before)?;
+    let wanted = gates_of(alloc, texts, halves.behind)?;
+    push_answer(out, packed.bytes() == wanted.bytes())?;
+    Ok(())
 }

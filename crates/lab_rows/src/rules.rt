@@ -1,9 +1,13 @@
 //! The eight rules of mappings.
-use crate::row::Row;
+ghost use Rattle.lab_model.specs.Shapes.{IsFreeOf};
+
+use crate::reading::{lab_of, mapping_of, wiring_of};
+use crate::texts::Texts;
 use feas::{CheckFault, check};
 use lab_base::{Items, Kind, Memory, Text};
+use line_text::field_at;
 use phys_lab::{Free, Lab};
-use row_words::Untold;
+use row_words::{Untold, number_at};
 use std::alloc::Global;
 use virt_topo::{Broken, Subject};
 
@@ -56,17 +60,56 @@ fn push_checked(out: &mut Text, checked: Result<(), CheckFault>) -> Result<(), M
     }
 }
 
+/// Adds the rule that a mapping breaks first. The second word is the text of its wiring, the third its own.
+fn push_rule(
+    out: &mut Text,
+    alloc: Global,
+    texts: &Texts,
+    words: &[&[u8]],
+    lab: &Lab,
+    free: &Free,
+) -> Result<(), Untold>
+    requires { IsFreeOf lab.now free.now }
+{
+    let wiring = wiring_of(alloc, texts, field_at(words, 1))?;
+    let mapping = match mapping_of(alloc, texts, field_at(words, 2), lab, &wiring) {
+        Ok(mapping) => mapping,
+        Err(wrong) => {
+            drop(wiring);
+            return Err(wrong);
+        }
+    };
+    let told = push_checked(out, check(alloc, lab, free, &wiring, &mapping));
+    drop(mapping);
+    drop(wiring);
+    Ok(told?)
+}
+
+/// Adds the rule that a mapping breaks first beside others. The fourth and the fifth word say what these have and leave.
+fn push_rule_beside(
+    out: &mut Text,
+    alloc: Global,
+    texts: &Texts,
+    words: &[&[u8]],
+    lab: &Lab,
+) -> Result<(), Untold> {
+    let (taken, left) = (number_at(words, 3)?, number_at(words, 4)?);
+    let free = free_of(alloc, lab, taken, left)?;
+    if free.nodes.len() != lab.nodes().len() || free.left.len() != lab.trunks().len() {
+        drop(free);
+        return Err(Untold::Word(Kind::Many));
+    }
+    let told = push_rule(out, alloc, texts, words, lab, &free);
+    drop(free);
+    told
+}
+
 /// The rule that a mapping breaks first, with its subject, or `kept`.
 /// The words are the texts of the lab, the wiring and the mapping. Two numbers follow: the first nodes that others have, and the thousand kbps that
 /// they leave of each trunk.
-pub fn tell(out: &mut Text, row: Row<'_>) -> Result<(), Untold> {
-    let lab = row.lab(0)?;
-    let free = free_of(row.alloc, &lab, row.number(3)?, row.number(4)?)?;
-    if free.nodes.len() != lab.nodes().len() || free.left.len() != lab.trunks().len() {
-        return Err(Untold::Word(Kind::Many));
-    }
-    let wiring = row.wiring(1)?;
-    let mapping = row.mapping(2, &lab, &wiring)?;
-    let checked = check(row.alloc, &lab, &free, &wiring, &mapping);
-    Ok(push_checked(out, checked)?)
+pub fn tell(out: &mut Text, alloc: Global, texts: &Texts, words: &[&[u8]]) -> Result<(), Untold> {
+    let lab = lab_of(alloc, texts, field_at(words, 0))?;
+    let told = push_rule_beside(out, alloc, texts, words, &lab);
+    drop(lab);
+    told
 }

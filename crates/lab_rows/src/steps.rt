@@ -1,11 +1,13 @@
-//! Commands to devices.
-use crate::row::Row;
-use lab_base::{Items, Kind, Name, Rates, VlanId, fields_in, name_in};
+//! Commands that were sent to devices, and rows.
+use crate::texts::Texts;
+use lab_base::{Boot, Items, Kind, Name, Rates, VlanId, fields_in, name_in};
 use line_text::name_at;
-use plant::DeviceOp;
+use plain_model::Sent;
+use plant::{Answer, DeviceOp, Fault};
 use row_words::{Untold, number_at, pair_of, parts_of};
 use std::alloc::Global;
 use std::str;
+use swap_plan::Port;
 
 /// A Join or a Leave.
 fn port_op(joins: bool, switch: Name, parts: &[&[u8]]) -> Result<DeviceOp, Untold> {
@@ -38,41 +40,93 @@ fn shape_op(node: Name, parts: &[&[u8]]) -> Result<DeviceOp, Untold> {
     })
 }
 
-/// The command of a word. A node that is `up` was polled.
-fn op_of(alloc: Global, word: &[u8]) -> Result<DeviceOp, Untold> {
-    let pair = pair_of(word)?;
-    let parts = parts_of(alloc, pair.behind)?;
-    let node = name_at(&parts, 0)?;
-    match str::from_utf8(pair.before).unwrap_or("") {
-        "join" => port_op(true, node, &parts),
-        "leave" => port_op(false, node, &parts),
-        "shape" => shape_op(node, &parts),
+/// The command of a word and the parts behind it. A node that is `up`, or is `lost`, was polled.
+fn op_of(verb: &str, parts: &[&[u8]]) -> Result<DeviceOp, Untold> {
+    let node = name_at(parts, 0)?;
+    match verb {
+        "join" => port_op(true, node, parts),
+        "leave" => port_op(false, node, parts),
+        "shape" => shape_op(node, parts),
         "load" => Ok(DeviceOp::Load {
             node,
-            os: name_at(&parts, 1)?,
+            os: name_at(parts, 1)?,
         }),
         "boot" => Ok(DeviceOp::Boot { node }),
-        "up" => Ok(DeviceOp::Poll { node }),
+        "up" | "lost" => Ok(DeviceOp::Poll { node }),
         "wipe" => Ok(DeviceOp::Wipe { node }),
         _ => Err(Untold::Word(Kind::Command)),
     }
 }
 
-fn add_ops(alloc: Global, ops: &mut Items<DeviceOp>, words: &[&[u8]]) -> Result<(), Untold> {
+/// The answer to such a command.
+fn answer_to(verb: &str) -> Result<Answer, Fault> {
+    match verb {
+        "up" => Ok(Answer::State(Boot::IsUp)),
+        "lost" => Err(Fault::Failed),
+        _ => Ok(Answer::Done),
+    }
+}
+
+/// A command that was sent, and perhaps applied.
+fn sent_of(alloc: Global, word: &[u8], applied: bool) -> Result<Sent, Untold> {
+    let pair = pair_of(word)?;
+    let verb = str::from_utf8(pair.before).unwrap_or("");
+    let parts = parts_of(alloc, pair.behind)?;
+    let op = op_of(verb, &parts)?;
+    let answer = answer_to(verb);
+    Ok(Sent {
+        op,
+        applied,
+        answer,
+    })
+}
+
+/// Adds the command of a word. One behind a `!` was not applied.
+fn add_step(alloc: Global, sent: &mut Items<Sent>, word: &[u8]) -> Result<(), Untold> {
+    // the checker wants each type that a moved value holds to be named
+    let _op: Option<DeviceOp> = None;
+    let step = match word.split_first() {
+        Some((b'!', word)) => sent_of(alloc, word, false)?,
+        _ => sent_of(alloc, word, true)?,
+    };
+    sent.push(step)?;
+    Ok(())
+}
+
+fn add_steps(alloc: Global, sent: &mut Items<Sent>, words: &[&[u8]]) -> Result<(), Untold> {
     for word in words {
-        ops.push(op_of(alloc, word)?)?;
+        add_step(alloc, sent, word)?;
     }
     Ok(())
 }
 
 /// The commands of words, each a command or the name of a text of some.
-pub fn ops_of(row: Row<'_>, words: &[&[u8]]) -> Result<Items<DeviceOp>, Untold> {
-    let mut ops = Items::new(row.alloc);
+pub fn steps_of(alloc: Global, texts: &Texts, words: &[&[u8]]) -> Result<Items<Sent>, Untold> {
+    let mut sent = Items::new(alloc);
     for word in words {
-        match row.texts.get(word) {
-            Some(text) => add_ops(row.alloc, &mut ops, &fields_in(row.alloc, text)?)?,
-            None => add_ops(row.alloc, &mut ops, &[*word])?,
+        match texts.get(word) {
+            Some(text) => add_steps(alloc, &mut sent, &fields_in(alloc, text)?)?,
+            None => add_step(alloc, &mut sent, word)?,
         }
     }
+    Ok(sent)
+}
+
+/// The commands of words, whether they are applied or not.
+pub fn ops_of(alloc: Global, texts: &Texts, words: &[&[u8]]) -> Result<Items<DeviceOp>, Untold> {
+    let sent = steps_of(alloc, texts, words)?;
+    let mut ops = Items::new(alloc);
+    for step in sent.as_slice() {
+        ops.push(step.op)?;
+    }
     Ok(ops)
+}
+
+/// The row that parts say: a switch, a port and a VLAN id.
+pub fn row_of(parts: &[&[u8]]) -> Result<Port, Untold> {
+    Ok(Port {
+        switch: name_at(parts, 0)?,
+        port: number_at(parts, 1)?,
+        vlan: VlanId(number_at(parts, 2)?),
+    })
 }

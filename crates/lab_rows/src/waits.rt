@@ -1,10 +1,12 @@
 //! Runs that wait.
 use crate::promises::{batch_of, push_names};
-use crate::row::Row;
+use crate::reading::lab_of;
+use crate::texts::Texts;
 use lab_ahead::{End, Promise, Span, Wait, first_wait, left_for};
 use lab_base::{Items, Kind, Memory, Name, NodeId, Text, name_in};
+use line_text::field_at;
 use phys_lab::Lab;
-use row_words::{Untold, number, pair_of, push_number};
+use row_words::{Untold, number, number_at, pair_of, push_number};
 use std::alloc::Global;
 
 /// The most nodes of a lab, and the most promises of a batch.
@@ -66,13 +68,13 @@ fn add_word(queued: &mut Queued, word: &[u8]) -> Result<(), Untold> {
     }
 }
 
-fn queued_of(row: Row<'_>, lab: &Lab) -> Result<Queued, Untold> {
+fn queued_of(alloc: Global, lab: &Lab, words: &[&[u8]]) -> Result<Queued, Untold> {
     let mut queued = Queued {
-        claimers: unclaimed(row.alloc, lab)?,
-        ends: Items::new(row.alloc),
-        places: Items::new(row.alloc),
+        claimers: unclaimed(alloc, lab)?,
+        ends: Items::new(alloc),
+        places: Items::new(alloc),
     };
-    for word in row.rest(4) {
+    for word in words.iter().skip(4) {
         add_word(&mut queued, word)?;
     }
     Ok(queued)
@@ -80,22 +82,24 @@ fn queued_of(row: Row<'_>, lab: &Lab) -> Result<Queued, Untold> {
 
 /// Tests a run that begins so late and takes so long.
 fn wait_of(
-    row: Row<'_>,
+    alloc: Global,
     lab: &Lab,
     promises: &[Promise],
     queued: &Queued,
+    from: u16,
+    length: u16,
 ) -> Result<Option<Wait>, Untold> {
     let nodes = queued.claimers.len();
     if nodes != lab.nodes().len() || nodes > MAX_NODES || promises.len() > MAX_PROMISES {
         return Err(Untold::Word(Kind::Many));
     }
     let span = Span {
-        from: u64::from(row.number(2)?),
-        length: u64::from(row.number(3)?),
+        from: u64::from(from),
+        length: u64::from(length),
     };
-    let (ends, places) = (queued.ends.as_slice(), queued.places.as_slice());
-    let left = left_for(row.alloc, &queued.claimers, ends, places)?;
-    Ok(first_wait(row.alloc, lab, left.as_slice(), promises, span)?)
+    let ends = queued.ends.as_slice();
+    let left = left_for(alloc, &queued.claimers, ends, queued.places.as_slice())?;
+    Ok(first_wait(alloc, lab, left.as_slice(), promises, span)?)
 }
 
 fn push_wait(out: &mut Text, found: &Option<Wait>) -> Result<(), Memory> {
@@ -111,10 +115,23 @@ fn push_wait(out: &mut Text, found: &Option<Wait>) -> Result<(), Memory> {
 }
 
 /// Whether a run fits; or the first moment at which it doesn't, what is needed and what is left, and the types.
-pub fn tell(out: &mut Text, row: Row<'_>) -> Result<(), Untold> {
-    let batch = batch_of(row, 1)?;
-    let lab = row.lab(0)?;
-    let queued = queued_of(row, &lab)?;
-    let found = wait_of(row, &lab, batch.promises.as_slice(), &queued)?;
-    Ok(push_wait(out, &found)?)
+pub fn tell(out: &mut Text, alloc: Global, texts: &Texts, words: &[&[u8]]) -> Result<(), Untold> {
+    let (from, length) = (number_at(words, 2)?, number_at(words, 3)?);
+    let batch = batch_of(alloc, texts.of(field_at(words, 1))?)?;
+    let lab = lab_of(alloc, texts, field_at(words, 0))?;
+    let queued = queued_of(alloc, &lab, words);
+    let found = match queued {
+        Ok(queued) => wait_of(
+            alloc,
+            &lab,
+            batch.promises.as_slice(),
+            &queued,
+            from,
+            length,
+        ),
+        Err(wrong) => Err(wrong),
+    };
+    drop(lab);
+    drop(batch);
+    Ok(push_wait(out, &found?)?)
 }

@@ -31,13 +31,15 @@ use Rattle.lab_model.proofs.Claiming.{claims_from, claims_test, node_claimed}
 use Rattle.lab_model.proofs.WiringLaws.{All-has}
 use Rattle.swap_plan.specs.Plans.{both_os}
 use Rattle.swap_plan.proofs.PlanLaws.{some_is, kept_if}
-use Rattle.plain_model.specs.Rows.{Sent, sent_to, world_sent, has_row, node_sent, pipe_left, rows_of as rows_left}
+use Rattle.plain_model.specs.declared.world.Sent.{Sent}
 use Rattle.plain_model.specs.Holds.{fits_in, fits, all_fit}
 use Rattle.plain_model.specs.Isolation.{Wanted, same_row, wanted_in}
-use Rattle.plain_model.specs.Cabling.{same_some, is_of_one, are_sets_of, held, is_node, os_wanted, pipes_wanted, is_right, stays, is_right_in, is_right_at, rows_stand, is_cabled_by, all_wanted, is_free_wiped, are_free_wiped, is_cabled}
+use Rattle.plain_model.specs.Rows.{sent_to, world_sent, has_row, node_sent, rows_of as rows_left}
+use Rattle.plain_model.specs.Cabling.{same_some, pipe_left, is_of_one, are_sets_of, held, is_node, os_wanted, pipes_wanted, is_right, stays, is_right_in, is_right_at, rows_stand, is_cabled_by, all_wanted, is_free_wiped, are_free_wiped, is_cabled}
 use Rattle.plain_model.proofs.HoldsLaws.{pass_from, pass_test, suits_from, fits_from, in_suits, moving_fits}
 use Rattle.plain_model.proofs.Neighbours.{row_is, row_same}
 use Rattle.plain_model.proofs.IsolationLaws.{wanted_owns, owns_wanted}
+use Rattle.plain_model.proofs.RowLaws.{row_told, pipe_told}
 use Rattle.plain_model.proofs.SeenLaws.{rows_there, rows_stand as left_stand}
 use Rattle.plain_model.proofs.NodeLaws.{some_are, some_same, sets_from, sets_test, node_from, node_test}
 
@@ -176,7 +178,7 @@ module _ (commands : List Sent) (lab : Lab) where
     in_from mapping tags is rows nodes =
         let m : Mapped = record { wiring = e.wiring; mapping = mapping; tags = tags } in
         let suits = in_suits lab e mapping tags is fit in (
-          λ row link h. all_has (λ (o : Owned). has_row commands o.row) (rows_of lab m) (record { row = row; owner = link }) rows h,
+          λ row link h. row_told row commands ∙ all_has (λ (o : Owned). has_row commands o.row) (rows_of lab m) (record { row = row; owner = link }) rows h,
           λ name h. let at = placed_at lab m name suits h in right_from m name suits h
               (subst (λ x. is_right commands x (os_on lab e.wiring.nodes mapping.places x) (pipes_on lab m x) ≡ true) at.2 (nodes at.0 at.1)),
         )
@@ -184,7 +186,7 @@ module _ (commands : List Sent) (lab : Lab) where
     in_rows : (mapping : Mapping) (tags : List VlanId) → CabledPhase lab (world_sent commands) e (In mapping tags) → rows_stand commands lab e.wiring (In mapping tags) ≡ true
     in_rows mapping tags says =
         let m : Mapped = record { wiring = e.wiring; mapping = mapping; tags = tags } in
-        all_from (λ (o : Owned). has_row commands o.row) (rows_of lab m) (λ o h. says.0 o.row o.owner h)
+        all_from (λ (o : Owned). has_row commands o.row) (rows_of lab m) (λ o h. sym (row_told o.row commands) ∙ says.0 o.row o.owner h)
 
     in_nodes : (mapping : Mapping) (tags : List VlanId) → e.phase ≡ In mapping tags → CabledPhase lab (world_sent commands) e (In mapping tags) → (name : List ℕ) → is_right_in commands lab e.wiring (In mapping tags) name ≡ true
     in_nodes mapping tags is says name =
@@ -228,7 +230,7 @@ module _ (commands : List Sent) (lab : Lab) where
             (node_from commands name (os_wanted lab new name) true (pipes_wanted lab new name) (sym (right_of name true kept) ∙ right name claims)),
         λ name k row claims not_kept at. elim (or_cases (is_none (os_wanted lab old name) && is_none (os_wanted lab new name)) _ (sym (right_of name false not_kept) ∙ right name claims)) [
           | inl none ↦ absurd (both_ways _ (not-true _ (sym (claims_some name) ∙ claims_test lab e name claims)) none)
-          | inr sets ↦ elim (or_cases _ _ (sets_from commands name (pipes_wanted lab old name) (pipes_wanted lab new name) sets k row (at))) [
+          | inr sets ↦ elim (or_cases _ _ (sets_from commands name (pipes_wanted lab old name) (pipes_wanted lab new name) sets k row (sym (pipe_told name k commands) ∙ at))) [
             | inl a ↦ inl (wants_from lab old name k row a)
             | inr b ↦ inr (wants_from lab new name k row b)
           ]
@@ -249,7 +251,7 @@ module _ (commands : List Sent) (lab : Lab) where
       allowed : (name : List ℕ) (k : ℕ) (o : Option PipeRow) → pipe_left commands name k ≡ o → Claims lab e name → is_kept lab old new name ≡ false → CabledPhase lab (world_sent commands) e (Moving old new)
           → is_of_one (pipes_wanted lab old name) (pipes_wanted lab new name) k o ≡ true
       allowed name k None at claims not_kept says = refl
-      allowed name k (Some row) at claims not_kept says = elim (says.1 name k row claims not_kept (at)) [
+      allowed name k (Some row) at claims not_kept says = elim (says.1 name k row claims not_kept (pipe_told name k commands ∙ at)) [
         | inl a ↦ or_left _ _ (wants_test lab old name k row a)
         | inr b ↦ or_right _ _ (wants_test lab new name k row b)
       ]

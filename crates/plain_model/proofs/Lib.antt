@@ -1,12 +1,10 @@
 mod CabledLaws
 mod HoldsLaws
 mod IsolationLaws
-mod Isolations
 mod Neighbours
 mod NodeLaws
 mod RowLaws
 mod Rows
-mod Samples
 mod SeenLaws
 mod Sides
-mod Worlds
+mod WantLaws

@@ -18,10 +18,12 @@ use Rattle.lab_model.specs.Courses.{op_pipe}
 use Rattle.lab_model.specs.Cabled.{SameNode}
 use Rattle.lab_model.proofs.Begins.{same_os-true}
 use Rattle.lab_model.proofs.Kept.{same_pipe-true}
-use Rattle.plain_model.specs.Rows.{Sent, node_sent, os_left, boot_left, pipe_left}
+use Rattle.plain_model.specs.declared.world.Sent.{Sent}
 use Rattle.plain_model.specs.Holds.{all_pass}
-use Rattle.plain_model.specs.Cabling.{is_state, state_of, same_some, is_pipe, is_of_one, is_set_of, are_sets_of, held, is_node}
+use Rattle.plain_model.specs.Rows.{node_sent}
+use Rattle.plain_model.specs.Cabling.{is_state, state_of, same_some, os_left, boot_left, pipe_left, is_pipe, is_of_one, is_set_of, are_sets_of, held, is_node}
 use Rattle.plain_model.proofs.HoldsLaws.{pass_from, pass_test}
+use Rattle.plain_model.proofs.RowLaws.{os_told, boot_told, pipe_told}
 use Rattle.plain_model.proofs.SeenLaws.{pipes_came}
 
 -- an or of a test that is false
@@ -83,7 +85,7 @@ one_same pipes k (Some row) e = or_left _ _ (some_same (Some row) (slice_get pip
 module _ (commands : List Sent) (name : List ℕ) where
   -- a pipe that is left was set by a command
   left_set : (k : ℕ) (row : PipeRow) → pipe_left commands name k ≡ Some row → (s : Sent) × Has commands s × (op_pipe s.op ≡ Some (name, k, row))
-  left_set k row is = elim (pipes_came commands blank name k row is) [ inl never ↦ absurd (cc never) | inr came ↦ came ]
+  left_set k row is = elim (pipes_came commands blank name k row (pipe_told name k commands ∙ is)) [ inl never ↦ absurd (cc never) | inr came ↦ came ]
 
   module _ (old new : List PipeRow) where
     set_at : (op : DeviceOp) (k : ℕ) (row : PipeRow) → is_set_of commands name old new op ≡ true → op_pipe op ≡ Some (name, k, row) → is_of_one old new k (pipe_left commands name k) ≡ true
@@ -140,15 +142,15 @@ module _ (commands : List Sent) (name : List ℕ) where
         let a = and_parts (same_os (os_left commands name) os) _ t in
         let b = and_parts (is_state (boot_left commands name) up) _ a.1 in
         record {
-          os = same_os-true _ _ a.0;
-          pipes = λ k. left_all k (pipe_left commands name k) refl t;
-          boot = state_is _ up b.0;
+          os = os_told name commands ∙ same_os-true _ _ a.0;
+          pipes = λ k. pipe_told name k commands ∙ left_all k (pipe_left commands name k) refl t;
+          boot = boot_told name commands ∙ state_is _ up b.0;
         }
 
     pub node_test : SameNode (node_sent commands name) (held os up pipes) → is_node commands name os up pipes ≡ true
     node_test same =
-        let each : (k : ℕ) → pipe_left commands name k ≡ slice_get pipes k = λ k. same.pipes k in
-        and_from _ _ (subst (λ o. same_os (os_left commands name) o ≡ true) same.os (os_self (os_left commands name)))
-        (and_from _ _ (ap (λ o. is_state o up) same.boot ∙ state_self up)
+        let each : (k : ℕ) → pipe_left commands name k ≡ slice_get pipes k = λ k. sym (pipe_told name k commands) ∙ same.pipes k in
+        and_from _ _ (subst (λ o. same_os (os_left commands name) o ≡ true) (sym (os_told name commands) ∙ same.os) (os_self (os_left commands name)))
+        (and_from _ _ (ap (λ o. is_state o up) (sym (boot_told name commands) ∙ same.boot) ∙ state_self up)
         (and_from _ _ (pass_test (length pipes) (is_pipe commands name pipes) (λ k lt. some_same _ _ (each k)))
         (sets_test pipes pipes (λ k. one_same pipes k (pipe_left commands name k) (each k)))))

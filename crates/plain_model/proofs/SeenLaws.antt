@@ -9,8 +9,10 @@ use Rattle.plant.specs.Worlds.{Row, PipeRow, World, blank}
 use Rattle.lab_model.specs.Isolated.{IsRow, IsPipe}
 use Rattle.lab_model.specs.Courses.{op_join, op_pipe}
 use Rattle.lab_model.proofs.CourseLaws.{row_came, pipe_came}
-use Rattle.plain_model.specs.Rows.{Sent, sent_to, world_sent, has_row, node_sent, pipe_left, row_seen, rows_by, rows_of, pipe_seen, pipes_by, pipes_of}
+use Rattle.plain_model.specs.declared.world.Sent.{Sent}
 use Rattle.plain_model.specs.Isolation.{PipeEnds, IsSeen}
+use Rattle.plain_model.specs.Rows.{sent_to, world_sent, has_row, node_sent, pipe_then, row_seen, rows_by, rows_of, pipe_seen, pipes_by, pipes_of}
+use Rattle.plain_model.proofs.RowLaws.{row_told, pipe_told}
 
 -- a row that stands was there, or some command joined it; and a pipe
 pub rows_came : (xs : List Sent) (w : World) (p : Row) → IsRow (fold sent_to w xs) p → IsRow w p ⊎ ((s : Sent) × Has xs s × (op_join s.op ≡ Some p))
@@ -58,11 +60,11 @@ module _ (commands : List Sent) where
   pub rows_there : (p : Row) → IsRow (world_sent commands) p → Has (rows_of commands commands) p
   rows_there p is = elim (rows_came commands blank p is) [
     | inl never ↦ absurd (cc never)
-    | inr came ↦ Has-flat_mapped (λ s. rows_by commands s.op) commands came.0 p came.1 (row_by came.0.op p came.2 (is))
+    | inr came ↦ Has-flat_mapped (λ s. rows_by commands s.op) commands came.0 p came.1 (row_by came.0.op p came.2 (sym (row_told p commands) ∙ is))
   ]
 
   pub rows_stand : (p : Row) → Has (rows_of commands commands) p → IsRow (world_sent commands) p
-  rows_stand p h = let s = Has-flat_map (λ s. rows_by commands s.op) commands p h in by_row s.0.op p s.2
+  rows_stand p h = let s = Has-flat_map (λ s. rows_by commands s.op) commands p h in row_told p commands ∙ by_row s.0.op p s.2
 
   pipe_by : (op : DeviceOp) (name : List ℕ) (k : ℕ) (row : PipeRow) → op_pipe op ≡ Some (name, k, row) → (node_sent commands name).pipes k ≡ Some row
       → Has (pipes_by commands op) (record { node = name; from = row.from; to = row.to })
@@ -70,7 +72,8 @@ module _ (commands : List Sent) where
       let key = same_Some (node, number, record { from = from; to = to; there = there; back = back }) (name, k, row) is in
       let same : node ≡ name = ap (λ x. x.0) key in
       let count : number ≡ k = ap (λ x. x.1) key in
-      subst (λ o. Has (pipe_seen node o) (record { node = name; from = row.from; to = row.to })) (sym ((λ i. pipe_left commands (same i) (count i)) ∙ at)) (inl (λ i. record { node = same i; from = row.from; to = row.to }))
+      let left : fold (pipe_then name k) None commands ≡ Some row = sym (pipe_told name k commands) ∙ at in
+      subst (λ o. Has (pipe_seen node o) (record { node = name; from = row.from; to = row.to })) (sym ((λ i. fold (pipe_then (same i) (count i)) None commands) ∙ left)) (inl (λ i. record { node = same i; from = row.from; to = row.to }))
   pipe_by (Join switch port vlan) name k row is at = absurd (cc is)
   pipe_by (Leave switch port vlan) name k row is at = absurd (cc is)
   pipe_by (Load node os) name k row is at = absurd (cc is)
@@ -87,7 +90,7 @@ module _ (commands : List Sent) where
   seen_from node k p (Some pipe) at (inr h) = absurd h
 
   by_pipe : (op : DeviceOp) (p : PipeEnds) → Has (pipes_by commands op) p → Stands p
-  by_pipe (Shape node number from to there back) p h = seen_from node number p (pipe_left commands node number) refl h
+  by_pipe (Shape node number from to there back) p h = seen_from node number p (fold (pipe_then node number) None commands) (pipe_told node number commands) h
   by_pipe (Join switch port vlan) p h = absurd h
   by_pipe (Leave switch port vlan) p h = absurd h
   by_pipe (Load node os) p h = absurd h

@@ -1,5 +1,5 @@
 -- Cabled as a test over commands.
-use Rattle.std.specs.Prelude.{ℕ, Bool, true, false, not, ◌&&◌, ◌||◌, List, [], length, slice_get, Option, Some, None, is_none, if◌then◌else◌}
+use Rattle.std.specs.Prelude.{ℕ, Bool, true, false, not, ◌&&◌, ◌||◌, List, [], length, fold, slice_get, Option, Some, None, is_none, if◌then◌else◌}
 use Rattle.std.specs.List.{list_any, list_all}
 use Rattle.std.specs.Str.{bytes_eq}
 use Rattle.std.specs.Cmp.Lexicographic.{pointwise}
@@ -20,9 +20,10 @@ use Rattle.lab_model.specs.Kept.{same_pipe, same_os}
 use Rattle.lab_model.specs.Beside.{is_claimed}
 use Rattle.lab_model.specs.Courses.{op_node}
 use Rattle.swap_plan.specs.Plans.{both_os}
-use Rattle.plain_model.specs.Rows.{Sent, has_row, rows_of as rows_left, os_left, boot_left, pipe_left}
+use Rattle.plain_model.specs.declared.world.Sent.{Sent}
 use Rattle.plain_model.specs.Holds.{all_pass}
 use Rattle.plain_model.specs.Isolation.{same_row, wanted_in}
+use Rattle.plain_model.specs.Rows.{has_row, rows_of as rows_left, os_then, boot_then, pipe_then}
 
 -- a boot state that is known, and is up or off
 abbrev pub is_state : Option Boot → Bool → Bool
@@ -39,6 +40,16 @@ abbrev pub same_some : Option PipeRow → Option PipeRow → Bool
 same_some None None = true
 same_some (Some a) (Some b) = same_pipe a b
 same_some a b = false
+
+-- what commands leave of a node
+abbrev pub os_left : List Sent → List ℕ → Option (List ℕ)
+os_left commands name = fold (os_then name) None commands
+
+abbrev pub boot_left : List Sent → List ℕ → Option Boot
+boot_left commands name = fold (boot_then name) (Some Off) commands
+
+abbrev pub pipe_left : List Sent → List ℕ → ℕ → Option PipeRow
+pipe_left commands name k = fold (pipe_then name k) None commands
 
 -- the node's pipe of that number is the one of the list
 abbrev pub is_pipe : List Sent → List ℕ → List PipeRow → ℕ → Bool

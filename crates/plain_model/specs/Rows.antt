@@ -1,20 +1,13 @@
 -- Rows and nodes after commands.
-use Rattle.std.specs.Prelude.{ℕ, Bool, List, [], ◌∷◌, fold, Option, Some, None, Result, if◌then◌else◌}
+use Rattle.std.specs.Prelude.{ℕ, Bool, false, List, [], ◌∷◌, fold, Option, Some, None, if◌then◌else◌}
 use Rattle.std.specs.List.{flat_map}
 use Rattle.lab_base.specs.declared.boot.Boot.{Boot}
 use Rattle.plant.specs.declared.device.DeviceOp.{DeviceOp}
 use Rattle.plant.specs.declared.device.DeviceOp.TheVariants.{Join, Shape}
-use Rattle.plant.specs.declared.device.Answer.{Answer}
-use Rattle.plant.specs.declared.device.Fault.{Fault}
 use Rattle.plant.specs.Events.{Event, Did}
-use Rattle.plant.specs.Worlds.{Row, PipeRow, NodeRow, World, blank, world_after}
+use Rattle.plant.specs.Worlds.{Row, PipeRow, NodeRow, World, blank, row_after, node_after, node_polled, world_after}
 use Rattle.plain_model.specs.Isolation.{PipeEnds}
-
--- a command that was sent, whether it was applied, and its answer
-pub record Sent : Type 0 where
-  pub op : DeviceOp
-  pub applied : Bool
-  pub answer : Result Answer Fault
+use Rattle.plain_model.specs.declared.world.Sent.{Sent}
 
 -- the commands of a trace, each with whether it was applied, and its answer
 abbrev pub commands_of : List Event → List Sent
@@ -29,21 +22,29 @@ sent_to w sent = world_after w (Did sent.op sent.applied sent.answer)
 abbrev pub world_sent : List Sent → World
 world_sent commands = fold sent_to blank commands
 
--- whether the row stands after these commands, and what a node holds: its OS, its boot state, and its pipe of that number
+-- whether the row stands after one command more, and after these
+abbrev pub row_then : Row → Bool → Sent → Bool
+row_then row had sent = if sent.applied then row_after sent.op row had else had
+
 abbrev pub has_row : List Sent → Row → Bool
-has_row commands row = (world_sent commands).rows row
+has_row commands row = fold (row_then row) false commands
+
+-- what a node holds after one command more
+abbrev pub node_then : List ℕ → NodeRow → Sent → NodeRow
+node_then name had sent = node_polled sent.op sent.answer name (if sent.applied then node_after sent.op name had else had)
+
+-- its OS, its boot state, and its pipe of that number, which depend on nothing else of it
+abbrev pub os_then : List ℕ → Option (List ℕ) → Sent → Option (List ℕ)
+os_then name had sent = (node_then name (record { os = had; pipes = λ k. None; boot = None }) sent).os
+
+abbrev pub boot_then : List ℕ → Option Boot → Sent → Option Boot
+boot_then name had sent = (node_then name (record { os = None; pipes = λ k. None; boot = had }) sent).boot
+
+abbrev pub pipe_then : List ℕ → ℕ → Option PipeRow → Sent → Option PipeRow
+pipe_then name k had sent = (node_then name (record { os = None; pipes = λ j. had; boot = None }) sent).pipes k
 
 abbrev pub node_sent : List Sent → List ℕ → NodeRow
 node_sent commands name = (world_sent commands).node name
-
-abbrev pub os_left : List Sent → List ℕ → Option (List ℕ)
-os_left commands name = (node_sent commands name).os
-
-abbrev pub boot_left : List Sent → List ℕ → Option Boot
-boot_left commands name = (node_sent commands name).boot
-
-abbrev pub pipe_left : List Sent → List ℕ → ℕ → Option PipeRow
-pipe_left commands name k = (node_sent commands name).pipes k
 
 -- the row that the command joins, if it stands after all commands
 abbrev pub row_seen : List Sent → Row → List Row
@@ -64,7 +65,7 @@ pipe_seen node (Some pipe) = record { node = node; from = pipe.from; to = pipe.t
 
 -- the pipe that the command sets, as it stands after all commands
 abbrev pub pipes_by : List Sent → DeviceOp → List PipeEnds
-pipes_by commands (Shape node number from to there back) = pipe_seen node (pipe_left commands node number)
+pipes_by commands (Shape node number from to there back) = pipe_seen node (fold (pipe_then node number) None commands)
 pipes_by commands op = []
 
 -- the pipes that some command set and that stand

@@ -1,5 +1,4 @@
 use Rattle.plain_model.proofs.IsolationLaws.{isolated_from, isolated_test}
-use Rattle.plain_model.proofs.SeenLaws.{all_seen}
 use Rattle.plain_model.proofs.isolation_tested.Goals as goal
 
 pub returns-clause-sound : goal.returns-clause-sound
@@ -7,6 +6,3 @@ returns-clause-sound c = λ lab es w rows pipes seen is. isolated_from lab es w 
 
 pub returns-clause-complete : goal.returns-clause-complete
 returns-clause-complete c = λ lab es w rows pipes seen is. isolated_test lab es w rows pipes seen is
-
-pub returns-clause-sent : goal.returns-clause-sent
-returns-clause-sent c = λ sent. all_seen sent

@@ -1,0 +1,7 @@
+use Rattle.std.proofs.Common.{◌≡◌, fold, None, drop}
+use Rattle.plain_model.specs.Rows.{pipe_then}
+use Rattle.plain_model.proofs.world.pipe_of.Given as goal
+
+-- the rest of the commands lead from what it has now to what it has in the end
+abbrev pub invariant-loop-sent : goal.invariant-loop-sent
+invariant-loop-sent l = fold (pipe_then l.name l.number) l.had (drop l.sent-index l.commands) ≡ fold (pipe_then l.name l.number) None l.commands
