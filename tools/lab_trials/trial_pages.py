@@ -52,16 +52,13 @@ class Pages(Trial):
         room.same("values of the manual", [word for word in having if f"| `{word}` |" not in manual], [])
 
     def test_readme(self):
-        """README's lines of lab give the replies that stand there, and so does its script."""
+        """README's lines of lab give the replies that stand there."""
         room, readme = self.room, read("README.md")
         session = re.search(r"```\n(\$ tools/lab .*?)```", readme, re.S)[1]
         for part in session.split("$ ")[1:]:
             line, _, wanted = part.partition("\n")
             ran = room.run("bash", "-c", f"cd '{TOP}' && {line.replace('> lab/', f'> {room.path}/')}", LAB_DIR=f"{room.path}/lab")
             room.same(line, (ran.returncode, ran.stdout), (0, wanted))
-        script = re.search(r"```\n(ptop .*?)```", readme, re.S)[1]
-        replies = re.search(r"The replies are (.*?)\.\n", readme)[1]
-        room.same("the script", room.labctl(script).stdout.splitlines(), re.findall(r"`(.*?)`", replies))
 
     def test_kinds(self):
         """Each example of a fault has it, and each line to write in place of a line of Emulab is taken."""
