@@ -3,3 +3,4 @@ mod EndLists
 mod LoadLists
 pub mod JoinLaws
 mod CableSteps
+mod SharedNodes

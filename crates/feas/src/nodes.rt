@@ -1,13 +1,13 @@
 // The rule on the virtual nodes of one node.
-ghost use Rattle.std.specs.Prelude.{◌≡◌, IfSome, ◌<◌, ◌≤◌, ◌&&◌, ◌++◌, ◌∷◌, [], ◌==◌, if◌then◌else◌, length, IfOk, OnOk};
+ghost use Rattle.std.specs.Prelude.{◌≡◌, IfSome, true, ◌<◌, ◌≤◌, ◌&&◌, ◌++◌, ◌∷◌, [], ◌==◌, if◌then◌else◌, length, IfOk, OnOk};
 ghost use Rattle.std.specs.List.{list_all};
 ghost use Rattle.lab_base.specs.Names.{same_name};
 ghost use Rattle.lab_model.specs.Shapes.{IsShaped, node_at};
 ghost use Rattle.lab_model.specs.Rules.{guests, number_of, agree, keeps_f2};
-ghost use Rattle.lab_model.specs.Feasible.{first_below};
+ghost use Rattle.lab_model.specs.Feasible.{AllPass, first_below};
 
 use lab_base::{Memory, Name, NodeId};
-use lab_model::node_at;
+use lab_model::{node_at, place_at};
 use phys_lab::Lab;
 use std::alloc::Global;
 use virt_topo::{Mapping, VirtNode, Wiring};
@@ -113,8 +113,25 @@ fn keeps_f2(
     Ok(kept)
 }
 
-/// The first node with virtual nodes of two types or OSes, or with too many of them.
-pub(crate) fn first_crowded(
+/// Whether the nodes of all virtual nodes are shared as they may be. It is asked where that takes fewer questions than all nodes do.
+fn are_shared(alloc: Global, lab: &Lab, wiring: &Wiring, mapping: &Mapping) -> Result<bool, Memory>
+    requires { IsShaped lab.now wiring.now mapping.now }
+    ensures { IfOk result (λ yes. yes ≡ true → AllPass (length lab.now.nodes) (keeps_f2 lab.now wiring.now mapping.now)) }
+{
+    if lab.nodes().len() <= mapping.places.len() {
+        return Ok(false);
+    }
+    for virt in 0..mapping.places.len() {
+        let node = place_at(mapping, virt).0;
+        if !keeps_f2(alloc, lab, wiring, mapping, node.0 as usize)? {
+            return Ok(false);
+        }
+    }
+    Ok(true)
+}
+
+/// The first of all nodes with virtual nodes of two types or OSes, or with too many of them.
+fn first_of_nodes(
     alloc: Global,
     lab: &Lab,
     wiring: &Wiring,
@@ -130,4 +147,21 @@ pub(crate) fn first_crowded(
         }
     }
     Ok(None)
+}
+
+/// The first node with virtual nodes of two types or OSes, or with too many of them.
+pub(crate) fn first_crowded(
+    alloc: Global,
+    lab: &Lab,
+    wiring: &Wiring,
+    mapping: &Mapping,
+) -> Result<Option<usize>, Memory>
+    requires { IsShaped lab.now wiring.now mapping.now }
+    ensures first { IfOk result (λ first. first ≡ first_below (length lab.now.nodes) (keeps_f2 lab.now wiring.now mapping.now)) }
+    ensures within { IfOk result (λ first. IfSome first (λ node. node < length lab.now.nodes)) }
+{
+    if are_shared(alloc, lab, wiring, mapping)? {
+        return Ok(None);
+    }
+    first_of_nodes(alloc, lab, wiring, mapping)
 }
