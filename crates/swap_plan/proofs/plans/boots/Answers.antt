@@ -1,4 +1,4 @@
-use Rattle.std.proofs.Common.{[], arith, map}
+use Rattle.std.proofs.Common.{[], arith, map, refl}
 use Rattle.std.proofs.lemmas.List.{map-append}
 use Rattle.swap_plan.specs.Plans.{Host}
 use Rattle.swap_plan.proofs.TableLaws.{listed_more, listed_all}
@@ -6,8 +6,8 @@ use Rattle.swap_plan.proofs.plans.boots.Goals as goal
 
 pub loop-node-preserved : goal.loop-node-preserved
 loop-node-preserved c =
-    listed_more (map (λ (h : Host). h.node)) (map-append (λ (h : Host). h.node)) c.args.lab.now c.args.oses.now c.requires.one_each c.loop-node.node c.index-oses-node.result c.node_name.result _ [] c.loop-node.listed _
-    (omega (arith, c.loop-node-test.true)) c.node_name.ensures c.index-oses-node.is c.loop-node.invariant c.in_ok-push_boot.ensures
+    listed_more (map (λ (h : Host). h.node)) (map-append (λ (h : Host). h.node)) c.args.lab.now c.args.oses.now c.requires.one_each c.loop-node.node _ _ _ [] c.loop-node.listed _
+    (omega (arith, c.loop-node-test.true)) refl c.index-oses-node.is c.loop-node.invariant c.in_ok-push_boot.ensures
 
 pub returns : goal.returns
 returns c =
