@@ -8,14 +8,21 @@ use line_text::read_lines;
 use phys_lab::{Lab, LabBuilder};
 use std::alloc::Global;
 
-fn start(alloc: Global) -> Result<LabSoFar, Memory>
+/// The bytes of a short line of a link. There is room from the start for what a text of such lines tells.
+const SHORT_LINE: usize = 32;
+
+/// A lab without parts, with room for some.
+fn start(alloc: Global, parts: usize) -> Result<LabSoFar, Memory>
     ensures { IfOk result (λ so_far. so_far ≡ start) }
 {
     match LabBuilder::new(alloc, 2, 4_094) {
-        Ok(lab) => Ok(LabSoFar {
-            lab,
-            has_range: false,
-        }),
+        Ok(mut lab) => {
+            lab.reserve(parts)?;
+            Ok(LabSoFar {
+                lab,
+                has_range: false,
+            })
+        }
         Err(_) => Err(Memory),
     }
 }
@@ -25,7 +32,7 @@ pub fn read_ptop(alloc: Global, text: &[u8]) -> Result<Lab, TextRefused>
     requires { length text.now < TEXT_LIMIT }
     ensures { Reads result (lab_of_text text.now) }
 {
-    let mut so_far = start(alloc)?;
+    let mut so_far = start(alloc, text.len() / SHORT_LINE)?;
     match read_lines(alloc, text, &mut so_far) {
         Ok(_) => Ok(so_far.lab.finish()?),
         Err(refused) => {
