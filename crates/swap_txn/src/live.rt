@@ -115,14 +115,6 @@ impl Live {
         ensures limit { limit_of journal.new ≡ limit_of journal.old }
         ensures live { live_of journal.new ≡ live_of journal.old }
     {
-        self.turn_state(journal, plant)
-    }
-
-    fn turn_state<P: Plant>(self, journal: &mut Journal, plant: &mut P) -> Turned<Live>
-        requires stands { Stands (P.seen plant.old).told journal.old }
-        requires fits { Fits self journal.old }
-        ensures { Turns self (P.seen plant.old) (P.seen plant.new) journal.old journal.new result }
-    {
         match self {
             Live::Begun(state) => any(state.turn(journal, plant)),
             Live::Clearing(state) => any(state.turn(journal, plant)),
