@@ -13,7 +13,7 @@ use Rattle.swap_turns.specs.Turning.{Outcome, More, TurnsBack, Ended, Stuck, Unw
 use Rattle.swap_turns.proofs.Closing.{closes_as}
 use Rattle.swap_mgr.specs.Managing.{IsPlain}
 use Rattle.swap_mgr.specs.Turns.{IsStop}
-use Rattle.swap_mgr.specs.declared.progress.Progress.{Progress}
+use Rattle.swap_turns.specs.declared.progress.Progress.{Progress}
 use Rattle.script_text.specs.declared.reply.Reply.{Reply}
 use Rattle.lab_core.specs.Breaks.{StartsBehind}
 use Rattle.lab_core.specs.Controller.{Control, WorksWith}

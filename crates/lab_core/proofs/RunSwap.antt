@@ -49,7 +49,7 @@ use Rattle.swap_mgr.specs.declared.progress.NotOpened.TheVariants as unopened
 use Rattle.swap_mgr.proofs.Holding.{named_open}
 use Rattle.swap_mgr.specs.Open.{HasOpen}
 use Rattle.swap_mgr.specs.Turns.{IsStop}
-use Rattle.swap_mgr.specs.declared.progress.Progress.{Progress}
+use Rattle.swap_turns.specs.declared.progress.Progress.{Progress}
 use Rattle.script_text.specs.declared.reply.FailedEnd.TheVariants as ends
 use Rattle.script_text.specs.declared.reply.Reply.{Reply}
 use Rattle.script_text.specs.declared.reply.Reply.TheVariants as replies

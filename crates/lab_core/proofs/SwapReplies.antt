@@ -4,8 +4,8 @@ use Rattle.lab_base.specs.declared.what.What.{What}
 use Rattle.swap_mgr.specs.Managing.{IsProgress}
 use Rattle.swap_mgr.specs.declared.progress.NotOpened.{NotOpened}
 use Rattle.swap_mgr.specs.declared.progress.NotOpened.TheVariants as unopened
-use Rattle.swap_mgr.specs.declared.progress.Progress.{Progress}
-use Rattle.swap_mgr.specs.declared.progress.Progress.TheVariants as progress
+use Rattle.swap_turns.specs.declared.progress.Progress.{Progress}
+use Rattle.swap_turns.specs.declared.progress.Progress.TheVariants as progress
 use Rattle.swap_turns.specs.Finishing.{IsOver}
 use Rattle.swap_turns.specs.Running.{OpenSwap as RunningSwap}
 use Rattle.swap_turns.specs.Turning.{Outcome}

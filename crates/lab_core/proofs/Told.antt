@@ -16,8 +16,8 @@ use Rattle.swap_turns.specs.Legs.{Leg, Forth, Undo, Settling, commits, inside_by
 use Rattle.swap_turns.specs.Running.{OpenSwap as RunningSwap}
 use Rattle.swap_turns.specs.Turning.{Outcome, More, TurnsBack, Ended, Stuck, Unwritten, Stopped, IsStuckAs, TurnSteps}
 use Rattle.swap_mgr.specs.Managing.{IsPlain, IsProgress}
-use Rattle.swap_mgr.specs.declared.progress.Progress.{Progress}
-use Rattle.swap_mgr.specs.declared.progress.Progress.TheVariants as progress
+use Rattle.swap_turns.specs.declared.progress.Progress.{Progress}
+use Rattle.swap_turns.specs.declared.progress.Progress.TheVariants as progress
 use Rattle.script_text.specs.declared.reply.FailedEnd.TheVariants as ends
 use Rattle.script_text.specs.declared.reply.Reply.{Reply}
 use Rattle.script_text.specs.declared.reply.Reply.TheVariants.{More as MoreReply, Trouble, Failed}

@@ -13,8 +13,8 @@ use Rattle.swap_turns.specs.Running.{OpenSwap as RunningSwap, Working}
 use Rattle.swap_turns.specs.Turning.{Outcome, More, TurnsBack, Ended, Stuck, Unwritten, Stopped, IfGoesOn, TurnSteps}
 use Rattle.swap_turns.proofs.Finishing.{onward_swap}
 use Rattle.swap_mgr.specs.Managing.{HasTurned, HasTurnedToEnd}
-use Rattle.swap_mgr.specs.declared.progress.Progress.{Progress}
-use Rattle.swap_mgr.specs.declared.progress.Progress.TheVariants as progress
+use Rattle.swap_turns.specs.declared.progress.Progress.{Progress}
+use Rattle.swap_turns.specs.declared.progress.Progress.TheVariants as progress
 use Rattle.swap_mgr.specs.Turns.{end_of}
 use Rattle.recovery.specs.One.{CanEndBy, EndsBy}
 use Rattle.lab_core.specs.Swapping.{HasEndedIn, HasTurnedIn}

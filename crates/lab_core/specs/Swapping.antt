@@ -19,8 +19,8 @@ use Rattle.swap_turns.specs.Turning.{IfGoesOn, TurnSteps}
 use Rattle.swap_mgr.specs.Managing.{HasTurned, HasTurnedToEnd}
 use Rattle.swap_mgr.specs.declared.progress.NotOpened.{NotOpened}
 use Rattle.swap_mgr.specs.declared.progress.NotOpened.TheVariants as unopened
-use Rattle.swap_mgr.specs.declared.progress.Progress.{Progress}
-use Rattle.swap_mgr.specs.declared.progress.Progress.TheVariants as progress
+use Rattle.swap_turns.specs.declared.progress.Progress.{Progress}
+use Rattle.swap_turns.specs.declared.progress.Progress.TheVariants as progress
 use Rattle.script_text.specs.declared.reply.FailedEnd.{FailedEnd}
 use Rattle.script_text.specs.declared.reply.FailedEnd.TheVariants as ends
 use Rattle.script_text.specs.declared.reply.Reply.{Reply}

@@ -21,14 +21,15 @@ use Rattle.swap_txn.specs.declared.live.Live.{Live}
 use Rattle.swap_txn.specs.Turns.{begun_again}
 use Rattle.swap_turns.specs.Beginning.{settling}
 use Rattle.swap_turns.specs.Causes.{IsLater}
-use Rattle.swap_turns.specs.declared.loops.Finished.{Finished}
-use Rattle.swap_turns.specs.declared.loops.Finished.TheVariants.{Ended, Stuck, Stopped}
-use Rattle.swap_turns.specs.Finishing.{end_of, Onward, along, back, Finishes, FinishGoesOn, FinishLeaves, IsFinishCaused, HasFinished, IsOnWay, IsStop, Tells}
+use Rattle.swap_turns.specs.declared.progress.Progress.{Progress}
+use Rattle.swap_turns.specs.declared.progress.Progress.TheVariants.{More, Trouble as Troubled, Ended, Stuck, Stopped}
+use Rattle.swap_turns.specs.Finishing.{Onward, along, back, Finishes, FinishGoesOn, FinishLeaves, IsFinishCaused, HasFinished, IsOnWay, IsOver}
 use Rattle.swap_turns.specs.Lengths.{IsLonger}
 use Rattle.swap_turns.specs.Legs.{Forth, Settling, commits, last_move, last_move_by, inside_by, why_of}
 use Rattle.swap_turns.specs.Running.{OpenSwap, AtWork}
 use Rattle.swap_turns.specs.Settling.{LeavesLab, OneLeaves, HasSettledOne}
 use Rattle.swap_turns.specs.Swaps.{Swap, Moves}
+use Rattle.swap_turns.specs.Telling.{IsProgress, IsStop, end_of}
 use Rattle.swap_turns.specs.Turning.{Outcome}
 use Rattle.swap_turns.specs.Turning as turning
 use Rattle.swap_turns.proofs.Beginning.{settling_open, runs_from_now}
@@ -79,7 +80,7 @@ as_ending s name exp false committed after named is gives = ap (λ b. moved s (e
 
 module _ (t : Texts) (s : LabState) (exp : List ℕ) (p : Swap) (named : p.name ≡ exp) (before now : Seen) (j k : Journal) where
   abbrev HasEnded : Over → Type 0
-  HasEnded ended = HasFinished t s (settling p) before now j k (λ at outcome. Tells (Ended ended) at outcome)
+  HasEnded ended = HasFinished t s (settling p) before now j k (λ at outcome. IsProgress at (Ended ended) outcome)
 
   -- WHICH RECORD ENDED IT
   module _ (ended : Over) (f : HasEnded ended) where
@@ -109,10 +110,12 @@ module _ (t : Texts) (s : LabState) (exp : List ℕ) (p : Swap) (named : p.name 
         (subst (λ q. moved s (last_move q Settling) ≡ Some x) at.0 g.turn.0.1.moves)
 
   -- its last record can follow
-  pub can_end_by : Sane s → Moves p s → (end : Finished) → HasFinished t s (settling p) before now j k (λ at outcome. Tells end at outcome) → CanEndBy s exp (end_of end)
+  pub can_end_by : Sane s → Moves p s → (end : Progress) → HasFinished t s (settling p) before now j k (λ at outcome. IsProgress at end outcome) → CanEndBy s exp (end_of end)
   can_end_by sane moves (Ended ended) f =
       let can = can_end p Settling moves.is_swap tt in
       (state_by p s moves.exp (is_none p.new), as_ending s p.name exp (is_none p.new) ended.committed _ named (committed_is ended f) (gives_by (is_none p.new) p s sane moves can))
+  can_end_by sane moves More f = tt
+  can_end_by sane moves (Troubled what) f = tt
   can_end_by sane moves (Stuck what) f = tt
   can_end_by sane moves Stopped f = tt
 
@@ -156,8 +159,10 @@ module _ (t : Texts) (s : LabState) (exp : List ℕ) (p : Swap) (named : p.name 
         )
 
     -- IT IS OVER, for the lab after it
-    pub over_as : (end : Finished) → HasFinished t s (settling p) before now j k (λ at outcome. Tells end at outcome) → EndsBy s exp (end_of end) after → IsFinishedAs t s p before now j k after end
+    pub over_as : (end : Progress) → HasFinished t s (settling p) before now j k (λ at outcome. IsProgress at end outcome) → EndsBy s exp (end_of end) after → IsFinishedAs t s p before now j k after end
     over_as (Ended ended) f ends = by_ended ended f ends
+    over_as More f ends = absurd (subst IsOver f.is_told f.over)
+    over_as (Troubled what) f ends = absurd (subst IsOver f.is_told.2 f.over)
     over_as (Stuck (whats.Device name)) f ends = let told = f.is_told in (turning.Stuck told.0, (told.0, told.1, refl), by_stuck _ f told.0 told.2 ends)
     over_as (Stuck (whats.Late node)) f ends = let told = f.is_told in (turning.Stuck told.0, (told.0, told.1, refl), by_stuck _ f told.0 told.2 ends)
     over_as (Stuck (whats.Unlawful node from to)) f ends = let told = f.is_told in (turning.Stuck told.0, (told.0, told.1, refl), by_stuck _ f told.0 told.2 ends)
@@ -176,8 +181,10 @@ module _ (t : Texts) (s : LabState) (p : Swap) (before now : Seen) (j k : Journa
   by_side false is h = (sym is, h)
 
   -- THE ANSWER tells how it is over
-  pub answered_as : (end : Finished) (result : Result One SettleFault) → IsFinishedAs t s p before now j k after end → IsAnswerOf end result → Is result
+  pub answered_as : (end : Progress) (result : Result One SettleFault) → IsFinishedAs t s p before now j k after end → IsAnswerOf end result → Is result
   answered_as (Ended ended) result h is = subst Is (sym is) (by_side ended.inside h.1.inside (settled_as h.0 _ h.1.outcome_is h.2))
+  answered_as More result h is = absurd is
+  answered_as (Troubled what) result h is = absurd is
   answered_as (Stuck (whats.Device name)) result h is = subst Is (sym is) (h.1.0, h.1.1, settled_as h.0 _ h.1.2 h.2)
   answered_as (Stuck (whats.Late node)) result h is = subst Is (sym is) (h.1.0, h.1.1, settled_as h.0 _ h.1.2 h.2)
   answered_as (Stuck (whats.Unlawful node from to)) result h is = subst Is (sym is) (h.1.0, h.1.1, settled_as h.0 _ h.1.2 h.2)
@@ -198,8 +205,10 @@ stopped_not_memory : {X : Type 0} (r : Result X SettleFault) → r ≡ Err fault
 stopped_not_memory r is same = cc
 
 -- it stopped exactly where the answer says so
-pub answer_stops : (end : Finished) (result : Result One SettleFault) → IsAnswerOf end result → IsStop end ↔ IsErrOf result faults.Stopped
+pub answer_stops : (end : Progress) (result : Result One SettleFault) → IsAnswerOf end result → IsStop end ↔ IsErrOf result faults.Stopped
 answer_stops (Ended ended) result is = (λ h. absurd h, λ h. ok_not _ _ (sym is ∙ h))
+answer_stops More result is = absurd is
+answer_stops (Troubled what) result is = absurd is
 answer_stops (Stuck (whats.Device name)) result is = (λ h. absurd h, λ h. ok_not _ _ (sym is ∙ h))
 answer_stops (Stuck (whats.Late node)) result is = (λ h. absurd h, λ h. ok_not _ _ (sym is ∙ h))
 answer_stops (Stuck (whats.Unlawful node from to)) result is = (λ h. absurd h, λ h. ok_not _ _ (sym is ∙ h))
@@ -207,8 +216,10 @@ answer_stops (Stuck whats.Journal) result is = (λ h. absurd h, λ h. plant_not_
 answer_stops Stopped result is = (λ h. is, λ h. tt)
 
 -- memory is not wanting behind the plan
-pub answer_of_memory : (end : Finished) (result : Result One SettleFault) → IsAnswerOf end result → IsErrOf result faults.Memory → ⊥
+pub answer_of_memory : (end : Progress) (result : Result One SettleFault) → IsAnswerOf end result → IsErrOf result faults.Memory → ⊥
 answer_of_memory (Ended ended) result is h = ok_not _ _ (sym is ∙ h)
+answer_of_memory More result is h = absurd is
+answer_of_memory (Troubled what) result is h = absurd is
 answer_of_memory (Stuck (whats.Device name)) result is h = ok_not _ _ (sym is ∙ h)
 answer_of_memory (Stuck (whats.Late node)) result is h = ok_not _ _ (sym is ∙ h)
 answer_of_memory (Stuck (whats.Unlawful node from to)) result is h = ok_not _ _ (sym is ∙ h)

@@ -11,13 +11,13 @@ use Rattle.records_model.specs.Labs.{LabState, Texts, moved}
 use Rattle.swap_txn.specs.Troubles.{what_of}
 use Rattle.swap_txn.specs.declared.ended.Ended.{Ended as Over}
 use Rattle.swap_turns.specs.Beginning.{settling}
-use Rattle.swap_turns.specs.Finishing.{Tells}
 use Rattle.swap_turns.specs.Legs.{Settling, commits, inside_by}
 use Rattle.swap_turns.specs.Settling.{HasSettledOne}
 use Rattle.swap_turns.specs.Swaps.{Swap, Moves}
+use Rattle.swap_turns.specs.Telling.{IsProgress}
 use Rattle.swap_turns.specs.Turning.{Outcome, Ended, Stuck, Unwritten, Stopped}
-use Rattle.swap_turns.specs.declared.loops.Finished.{Finished}
-use Rattle.swap_turns.specs.declared.loops.Finished.TheVariants as finished
+use Rattle.swap_turns.specs.declared.progress.Progress.{Progress}
+use Rattle.swap_turns.specs.declared.progress.Progress.TheVariants as progress
 use Rattle.lab_state.specs.Changes.{CanEnd, ending}
 use Rattle.recovery.specs.declared.fault.SettleFault.{SettleFault}
 use Rattle.recovery.specs.declared.fault.SettleFault.TheVariants as faults
@@ -49,8 +49,8 @@ SuitsIf lab None = Unit {0}
 SuitsIf lab (Some m) = Suits lab m
 
 -- turned to its end, it left that lab
-abbrev pub IsFinishedAs : Texts → LabState → Swap → Seen → Seen → Journal → Journal → LabState → Finished → Type 0
-IsFinishedAs t s p before now j k after end = (outcome : Outcome) × Tells end (settling p) outcome × HasSettledOne t s p before now j k outcome after
+abbrev pub IsFinishedAs : Texts → LabState → Swap → Seen → Seen → Journal → Journal → LabState → Progress → Type 0
+IsFinishedAs t s p before now j k after end = (outcome : Outcome) × IsProgress (settling p) end outcome × HasSettledOne t s p before now j k outcome after
 
 -- the end of the experiment's move can follow, and follows, where its swap came to its last record
 abbrev pub CanEndBy : LabState → List ℕ → Option Over → Type 0
@@ -65,8 +65,9 @@ EndsBy s exp None after = after ≡ s
 abbrev pub side_of : Bool → One
 side_of inside = if inside then one.In else one.Out
 
-abbrev pub IsAnswerOf : Finished → Result One SettleFault → Type 0
-IsAnswerOf (finished.Ended ended) result = result ≡ Ok (side_of ended.inside)
-IsAnswerOf (finished.Stuck whats.Journal) result = result ≡ Err faults.Plant
-IsAnswerOf (finished.Stuck what) result = result ≡ Ok (one.Stuck what)
-IsAnswerOf finished.Stopped result = result ≡ Err faults.Stopped
+abbrev pub IsAnswerOf : Progress → Result One SettleFault → Type 0
+IsAnswerOf (progress.Ended ended) result = result ≡ Ok (side_of ended.inside)
+IsAnswerOf (progress.Stuck whats.Journal) result = result ≡ Err faults.Plant
+IsAnswerOf (progress.Stuck what) result = result ≡ Ok (one.Stuck what)
+IsAnswerOf progress.Stopped result = result ≡ Err faults.Stopped
+IsAnswerOf end result = ⊥

@@ -7,9 +7,9 @@ ghost use Rattle.lab_state.specs.Texts.{the_texts};
 ghost use Rattle.swap_txn.specs.Steps.{live_of};
 ghost use Rattle.swap_txn.specs.Turns.{begun_again};
 ghost use Rattle.swap_turns.specs.Causes.{IsLater};
-ghost use Rattle.swap_turns.specs.Finishing.{IsStop};
 ghost use Rattle.swap_turns.specs.Running.{AtWork};
 ghost use Rattle.swap_turns.specs.Swaps.{IsSwap, Swap, Moves};
+ghost use Rattle.swap_turns.specs.Telling.{IsClosed, IsStop};
 ghost use Rattle.recovery.specs.One.{SuitsIf, IsMoving, EndsBy, CanEndBy, IsFinishedAs, IsAnswerOf, IsOverAs};
 
 use crate::SettleFault;
@@ -20,7 +20,7 @@ use phys_lab::Lab;
 use plant::Plant;
 use std::alloc::Global;
 use swap_plan::{Ops, plan_change, plan_in, plan_out};
-use swap_turns::{Finished, finish};
+use swap_turns::{Progress, finish};
 use swap_txn::{Ended, Live};
 use virt_topo::{Mapped, Phase};
 
@@ -92,12 +92,13 @@ fn turned_to_end<P: Plant>(
     exp: Name,
     journal: &mut Journal,
     plant: &mut P,
-) -> Result<Finished, Memory>
+) -> Result<Progress, Memory>
     requires work { AtWork the_texts (P.seen plant.old).told journal.old state.old.state }
     requires moves { IsMoving state.old.state exp }
     ensures over { IfOk result (λ end. (p : Swap) → p.name ≡ exp → Moves p state.old.state
         → IsFinishedAs the_texts state.old.state p (P.seen plant.old) (P.seen plant.new) journal.old journal.new state.new.state end) }
     ensures err { OnErr result ((state.new.state ≡ state.old.state) × (journal.new ≡ journal.old) × (plant.new ≡ plant.old)) }
+    ensures closed { IfOk result IsClosed }
     ensures stopped { IfOk result (λ end. IsStop end ↔ IsTrue (P.seen plant.new).stopped) }
     ensures limit { limit_of journal.new ≡ limit_of journal.old }
     ensures live { live_of journal.new ≡ live_of journal.old }
@@ -108,14 +109,16 @@ fn turned_to_end<P: Plant>(
     Ok(finished)
 }
 
-fn answer(finished: Finished) -> Result<One, SettleFault>
+fn answer(finished: Progress) -> Result<One, SettleFault>
+    requires { IsClosed finished }
     ensures { IsAnswerOf finished result }
 {
     match finished {
-        Finished::Ended(ended) => Ok(if ended.inside { One::In } else { One::Out }),
-        Finished::Stuck(What::Journal) => Err(SettleFault::Plant),
-        Finished::Stuck(what) => Ok(One::Stuck(what)),
-        Finished::Stopped => Err(SettleFault::Stopped),
+        Progress::Ended(ended) => Ok(if ended.inside { One::In } else { One::Out }),
+        Progress::Stuck(What::Journal) => Err(SettleFault::Plant),
+        Progress::Stuck(what) => Ok(One::Stuck(what)),
+        Progress::Stopped => Err(SettleFault::Stopped),
+        Progress::More | Progress::Trouble(_) => unreachable!(),
     }
 }
 

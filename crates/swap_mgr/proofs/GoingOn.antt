@@ -11,10 +11,11 @@ use Rattle.plant.specs.Seen.{Seen}
 use Rattle.swap_turns.specs.Swaps.{Swap}
 use Rattle.swap_turns.specs.Legs.{Leg, Forth, Undo, Settling, commits, why_of}
 use Rattle.swap_turns.specs.Running.{OpenSwap, IsOpen, AtWork, IsRunning, Working}
+use Rattle.swap_turns.specs.Telling.{IsProgress}
 use Rattle.swap_turns.specs.Turning.{Outcome, More, TurnsBack, Ended, Stuck, Unwritten, Stopped, IfGoesOn}
-use Rattle.swap_mgr.specs.declared.progress.Progress.{Progress}
-use Rattle.swap_mgr.specs.declared.progress.Progress.TheVariants as progress
-use Rattle.swap_mgr.specs.Managing.{Holds, IsPlain, IsManaging, IsProgress, GoesOnBy, HasTurned, HasTurnedToEnd}
+use Rattle.swap_turns.specs.declared.progress.Progress.{Progress}
+use Rattle.swap_turns.specs.declared.progress.Progress.TheVariants as progress
+use Rattle.swap_mgr.specs.Managing.{Holds, IsPlain, IsManaging, GoesOnBy, HasTurned, HasTurnedToEnd}
 
 module _ (t : Texts) (told : Option Told) (k : Journal) (new : List Live) (opens : List (OpenSwap × Live)) (holds : Holds new opens) where
   managing : (after : LabState) → Working t told k after opens → IsManaging told k new

@@ -34,10 +34,10 @@ use Rattle.swap_turns.specs.Running.{OpenSwap, IsOpen, Working}
 use Rattle.swap_turns.specs.Turning.{Outcome, More, TurnsBack, Ended, Stuck, Unwritten, Stopped, IfGoesOn, TurnSteps, StillWorking, open_after, state_after, slot}
 use Rattle.swap_turns.proofs.Finishing.{way_starts}
 use Rattle.swap_turns.proofs.Together.{gone, one_more, one_of_them}
-use Rattle.swap_mgr.specs.declared.progress.Progress.{Progress}
-use Rattle.swap_mgr.specs.Managing.{Holds, IsPlain, IsManaging, IsProgress, HasTurned, HasTurnedToEnd, HasOpened}
+use Rattle.swap_turns.specs.declared.progress.Progress.{Progress}
+use Rattle.swap_mgr.specs.Managing.{Holds, IsPlain, IsManaging, HasTurned, HasTurnedToEnd, HasOpened}
 use Rattle.swap_mgr.specs.Open.{HasOpen, IsWithout, IsWith, PutBy}
-use Rattle.swap_mgr.specs.Turns.{progress_of}
+use Rattle.swap_turns.specs.Telling.{IsProgress, progress_of}
 use Rattle.swap_mgr.proofs.Telling.{IsNext, retold, next_of}
 
 abbrev pub Slot : Type 0
@@ -209,28 +209,15 @@ module _ (t : Texts) (s : LabState) (opens : List Slot) (exp : List ℕ) (was no
       way_starts t s its.0 was j x split_work.work (split_work.each (its.0, x) here) (split_work.running (its.0, x) here)
 
   -- TURNED TO ITS END
-  pub out_one : (Tells : OpenSwap → Outcome → Type 0) (result : Progress) → ((o : OpenSwap) (outcome : Outcome) → Tells o outcome → IsProgress o result outcome) → HasFinished t s its.0 was now j k Tells → HasTurnedToEnd t s opens exp was now j k result mid
-  out_one Tells result tells f = record {
+  pub out_one : (result : Progress) → HasFinished t s its.0 was now j k (λ at outcome. IsProgress at result outcome) → HasTurnedToEnd t s opens exp was now j k result mid
+  out_one result f = record {
     before = at.0;
     behind = at.1;
     swap = its.0;
     state = x;
     opens_are = at.2;
     named = sym (its_name t was.told j s opens working old holds x mid w its.0 at.0 at.1 at.2) ∙ named;
-    finished = record {
-      at = f.at;
-      outcome = f.outcome;
-      steps = f.steps;
-      told = f.told;
-      swap_is = f.swap_is;
-      is_told = tells f.at f.outcome f.is_told;
-      over = f.over;
-      leaves = f.leaves;
-      sound = f.sound;
-      later = f.later;
-      cause = f.cause;
-      longer = f.longer;
-    };
+    finished = f;
     holds = mid_holds t was.told j s opens working old holds x mid w its.0 at.0 at.1 at.2;
     all = out_as f.steps f.outcome f.over f.leaves;
   }

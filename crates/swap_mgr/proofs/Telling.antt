@@ -12,13 +12,8 @@ use Rattle.swap_turns.specs.Running.{OpenSwap}
 use Rattle.swap_turns.specs.Turning.{Outcome, More, Ended, Stuck, Unwritten, Stopped, IsTold, IsStuckAs, open_after, state_after, slot}
 use Rattle.swap_turns.specs.declared.turn.TurnedSwap.{TurnedSwap}
 use Rattle.swap_turns.specs.declared.turn.TurnedSwap.TheVariants as swap
-use Rattle.swap_turns.specs.declared.loops.Finished.{Finished}
-use Rattle.swap_turns.specs.declared.loops.Finished.TheVariants as finished
-use Rattle.swap_turns.specs.Finishing.{Tells}
 use Rattle.swap_turns.specs.OneTurn.{IsReached, IsLeftBy, open_in}
-use Rattle.swap_mgr.specs.declared.progress.Progress.{Progress}
-use Rattle.swap_mgr.specs.Managing.{IsProgress}
-use Rattle.swap_mgr.specs.Turns.{IsEndOf, progress_of}
+use Rattle.swap_turns.specs.Telling.{IsProgress, progress_of}
 
 -- what stands in its place again
 abbrev pub IsNext : List (OpenSwap × Live) → Option OpenSwap → Option Live → Type 0
@@ -86,9 +81,3 @@ module _ (o : OpenSwap) (steps : List Event) (outcome : Outcome) (result : Turne
   })
   retold (turned.Stuck state what) told is = gone None (swap.Stuck what) is refl (stuck_out what told) told
   retold turned.Stopped told is = gone None swap.Stopped is refl (out_by Stopped told refl) told
-
--- the end of a swap is told by its outcome
-pub ended_told : (end : Finished) (result : Progress) → IsEndOf end result → (at : OpenSwap) (outcome : Outcome) → Tells end at outcome → IsProgress at result outcome
-ended_told (finished.Ended e) result is at outcome told = subst (λ p. IsProgress at p outcome) (sym is) told
-ended_told (finished.Stuck what) result is at outcome told = subst (λ p. IsProgress at p outcome) (sym is) told
-ended_told finished.Stopped result is at outcome told = subst (λ p. IsProgress at p outcome) (sym is) told

@@ -5,7 +5,6 @@ use Rattle.plant.specs.Events.{Event}
 use Rattle.plant.specs.Told.{Told, with_steps}
 use Rattle.journal_rec.specs.declared.record.Record.{Record}
 use Rattle.journal_disk.specs.declared.journal.Journal.{Journal}
-use Rattle.lab_model.specs.Courses.{Trouble as AnyTrouble}
 use Rattle.records_model.specs.Labs.{LabState, Move, Texts}
 use Rattle.records_model.specs.Works.{IsSound}
 use Rattle.swap_txn.specs.declared.live.Live.{Live}
@@ -14,7 +13,6 @@ use Rattle.swap_txn.specs.declared.turned.Turned.TheVariants as turned
 use Rattle.lab_base.specs.declared.what.What.TheVariants as whats
 use Rattle.plant.specs.Seen.{Seen}
 use Rattle.swap_txn.specs.States.{Plans}
-use Rattle.swap_txn.specs.Troubles.{what_of}
 use Rattle.swap_turns.specs.Records.{missed, nothing}
 use Rattle.swap_turns.specs.Swaps.{Swap}
 use Rattle.swap_turns.specs.Causes.{IsLater}
@@ -23,11 +21,12 @@ use Rattle.swap_turns.specs.Finishing.{Finishes, HasFinished}
 use Rattle.swap_turns.specs.Legs.{Leg, Settling}
 use Rattle.swap_turns.specs.Lengths.{IsLonger}
 use Rattle.swap_turns.specs.Running.{OpenSwap, Working}
-use Rattle.swap_turns.specs.Turning.{Outcome, More, TurnsBack, Unwritten, Stopped, TurnSteps, Leaves, EndsAs, IfGoesOn, IsStuckAs, IsOutcomeCaused, open_after}
+pub use Rattle.swap_turns.specs.Telling.{IsProgress}
+use Rattle.swap_turns.specs.Turning.{Outcome, Unwritten, Stopped, TurnSteps, Leaves, IfGoesOn, IsOutcomeCaused, open_after}
 use Rattle.swap_mgr.specs.declared.progress.NotOpened.{NotOpened}
 use Rattle.swap_mgr.specs.declared.progress.NotOpened.TheVariants as unopened
-use Rattle.swap_mgr.specs.declared.progress.Progress.{Progress}
-use Rattle.swap_mgr.specs.declared.progress.Progress.TheVariants as progress
+use Rattle.swap_turns.specs.declared.progress.Progress.{Progress}
+use Rattle.swap_turns.specs.declared.progress.Progress.TheVariants as progress
 use Rattle.swap_mgr.specs.Open.{HasOpen}
 
 -- an open swap goes forth or is undone, and is no settling
@@ -55,14 +54,6 @@ pub record IsManaging (told : Option Told) (j : Journal) (swaps : List Live) : T
   pub opens : List (OpenSwap × Live)
   pub working : Working texts told j lab opens
   pub holds : Holds swaps opens
-
--- HOW A TURN IS TOLD
-abbrev pub IsProgress : OpenSwap → Progress → Outcome → Type 0
-IsProgress o progress.More outcome = outcome ≡ More
-IsProgress o (progress.Trouble what) outcome = (why : AnyTrouble) × (what ≡ what_of why) × (outcome ≡ TurnsBack why)
-IsProgress o (progress.Ended ended) outcome = EndsAs o ended outcome
-IsProgress o (progress.Stuck what) outcome = IsStuckAs what outcome
-IsProgress o progress.Stopped outcome = outcome ≡ Stopped
 
 -- the controller goes on, by what is told
 abbrev pub GoesOnBy : Progress → Type 0 → Type 0

@@ -21,20 +21,19 @@ ghost use Rattle.swap_turns.specs.Swaps.{Swap, Moves};
 ghost use Rattle.swap_turns.specs.Beginning.{BeginsOf, MayBegin, IsPlanOf};
 ghost use Rattle.swap_turns.specs.OneTurn.{open_in};
 ghost use Rattle.swap_turns.specs.Running.{OpenSwap, Working};
+ghost use Rattle.swap_turns.specs.Telling.{IsStop};
 ghost use Rattle.swap_mgr.specs.Managing.{Holds, IsManaging, GoesOnBy, HasTurned, HasTurnedToEnd};
 ghost use Rattle.swap_mgr.specs.Managing.{IsAnsweredBy, IfNothingSent, IfSent, IsStopOpening, IsAfterOpening, IsToldBy};
 ghost use Rattle.swap_mgr.specs.Open.{AreNames, AreWithin, HasOpen, IsWith, IsWithout, PutBy, states};
-ghost use Rattle.swap_mgr.specs.Turns.{IsStop};
 
-use crate::turns::{progress_at_end, progress_of};
-use crate::{NotOpen, NotOpened, Progress};
+use crate::{NotOpen, NotOpened};
 use journal_disk::Journal;
 use lab_base::{Memory, Name};
 use plant::Plant;
 use slab::Slab;
 use std::alloc::Global;
 use std::marker::Model;
-use swap_turns::{TurnedSwap, finish, one_turn};
+use swap_turns::{Progress, TurnedSwap, finish, one_turn};
 use swap_txn::{Live, Planned, Turned};
 
 /// The most open swaps.
@@ -218,7 +217,7 @@ impl Manager {
             return Err(NotOpen);
         };
         let left = one_turn(live, journal, plant);
-        let progress = progress_of(&left);
+        let progress = left.progress();
         self.put_back(left);
         Ok(progress)
     }
@@ -245,6 +244,6 @@ impl Manager {
         let Some(live) = self.take(exp) else {
             return Err(NotOpen);
         };
-        Ok(progress_at_end(finish(live, journal, plant)))
+        Ok(finish(live, journal, plant))
     }
 }

@@ -10,6 +10,7 @@ ghost use Rattle.swap_turns.specs.Running.{OpenSwap};
 ghost use Rattle.swap_turns.specs.Finishing.{IsOnWay};
 ghost use Rattle.swap_turns.specs.OneTurn.{CanTurn, HasMade, IsLeftOnWay, IsReached, IsLeftBy, IsStop, TurnsLess, open_in};
 
+use crate::Progress;
 use journal_disk::Journal;
 use lab_base::What;
 use plant::Plant;
@@ -26,6 +27,24 @@ pub enum TurnedSwap {
     Stuck(What),
     /// The plant stopped.
     Stopped,
+}
+
+impl TurnedSwap {
+    ghost use Rattle.swap_turns.specs.Telling.{IsStop as IsStopTold, progress_of};
+
+    /// The outcome of the turn.
+    pub fn progress(&self) -> Progress
+        ensures is { result ≡ progress_of self.now }
+        ensures stopped { IsStopTold result ↔ IsStop self.now }
+    {
+        match self {
+            TurnedSwap::Open(_, None) => Progress::More,
+            TurnedSwap::Open(_, Some(what)) => Progress::Trouble(*what),
+            TurnedSwap::Over(ended) => Progress::Ended(*ended),
+            TurnedSwap::Stuck(what) => Progress::Stuck(*what),
+            TurnedSwap::Stopped => Progress::Stopped,
+        }
+    }
 }
 
 fn reached(live: Live) -> TurnedSwap
