@@ -7,4 +7,3 @@ mod Standing
 mod Stepping
 pub mod Turning
 mod Watching
-mod Writing

@@ -1,14 +1,15 @@
 -- A command and a record, and the swap behind each.
-use Rattle.std.proofs.Common.{◌≡◌, Bool, true, false, cond, List, [], ◌∷◌, Option, Some, None, IsSome, Result, Ok, Err, refl, sym, ap, ◌∙◌, subst, arith}
+use Rattle.std.proofs.Common.{◌≡◌, ℕ, Bool, true, false, cond, List, [], ◌∷◌, Option, Some, None, IsSome, Result, Ok, Err, refl, sym, ap, ◌∙◌, subst, arith}
 use Rattle.std.proofs.lemmas.Bool.Decides.{nat_tests}
 use Rattle.lab_base.specs.declared.what.What.{What}
 use Rattle.lab_base.specs.declared.what.What.TheVariants as whats
+use Rattle.plant.specs.declared.device.Answer.{Answer}
 use Rattle.plant.specs.declared.device.DeviceOp.{DeviceOp}
+use Rattle.plant.specs.declared.device.Fault.{Fault}
 use Rattle.journal_disk.specs.declared.fault.AppendFault.{AppendFault}
 use Rattle.journal_disk.specs.declared.fault.AppendFault.TheVariants as faults
 use Rattle.journal_disk.specs.declared.journal.Journal.{Journal}
-use Rattle.lab_model.specs.Courses.{Plan, Left, Watch, Course, Going, Cut, Halted, nothing_left}
-use Rattle.swap_txn.specs.declared.halt.Halt.TheVariants as halts
+use Rattle.lab_model.specs.Courses.{Plan, Left, Watch, Course, Going, Cut, Halted, Device, answered, next, nothing_left}
 use Rattle.swap_txn.specs.declared.live.Live.{Live}
 use Rattle.swap_txn.specs.declared.live.Live.TheVariants as lives
 use Rattle.swap_txn.specs.declared.stage.Stage.{Stage}
@@ -17,8 +18,8 @@ use Rattle.swap_txn.specs.declared.turned.Turned.{Turned}
 use Rattle.swap_txn.specs.declared.turned.Turned.TheVariants.{Same, Next, Trouble, Stuck, Stopped}
 use Rattle.swap_txn.specs.States.{Undo, View, stage_of, undone}
 use Rattle.plant.specs.Seen.{Seen}
-use Rattle.swap_txn.specs.Steps.{Sends, Writes}
-use Rattle.swap_txn.specs.Troubles.{what_of, StepBy, IsWritten}
+use Rattle.swap_txn.specs.Steps.{Commanded, Sends, Writes}
+use Rattle.swap_txn.specs.Troubles.{what_of, LeadsBy}
 use Rattle.swap_txn.specs.Turns.{view_of, with_view, state_at, state_of, same_state, last_of, ended_of, CutBy, SentBy, EndedBy, TurnOf, sends, writes, moved, turned_by, TurnsBy, Turns, HasRoom, FitsBy, Fits, HasWork}
 use Rattle.swap_txn.specs.Going.{CutBack, StaysAt, IfStuck, IsName}
 use Rattle.swap_txn.proofs.Places.{boots_are}
@@ -40,54 +41,36 @@ pub none_left : (plan : Plan) (left : Left) → left ≡ nothing_left → stage_
 none_left plan left none = ap (λ l. stage_of plan l) none ∙ boots_are plan nothing_left refl
 
 -- A STEP OF THE COURSE, as what it makes of the swap
-pub sent_on : (v : View) (course : Course) (new : Left) → StepBy v.left course (Ok tt) new → SentBy v course (Same (record v { left = new }))
+pub sent_on : (v : View) (course : Course) (new : Left) → LeadsBy v.left course (Ok tt) new → SentBy v course (Same (record v { left = new }))
 sent_on v (Going left) new h = ap (λ l. Same (record v { left = l })) h.1
 sent_on v (Cut trouble) new h = absurd (cc h.0)
-sent_on v Halted new h = absurd (cc h)
+sent_on v Halted new h = absurd h
 
-pub sent_back : (v : View) (course : Course) (new : Left) (what : What) (work : Turned View) → StepBy v.left course (Err (halts.Trouble what)) new → CutBack (record v { left = new }) what v.undo work → SentBy v course work
+pub sent_back : (v : View) (course : Course) (new : Left) (what : What) (work : Turned View) → LeadsBy v.left course (Err what) new → CutBack (record v { left = new }) what v.undo work → SentBy v course work
 sent_back v (Going left) new what work h back = absurd (cc h.0)
 sent_back v (Cut trouble) new what work h back = by v.undo (subst (λ w. CutBack (record v { left = new }) w v.undo work) (cc h.0) back)
   where
     by : (undo : Option Undo) → CutBack (record v { left = new }) (what_of trouble) undo work → CutBy v (what_of trouble) undo work
     by None h' = (h.1.0, h' ∙ ap (λ l. Stuck (record v { left = l }) (what_of trouble)) h.1.1)
     by (Some u) h' = h'
-sent_back v Halted new what work h back = absurd (cc h)
+sent_back v Halted new what work h back = absurd h
 
-pub sent_halted : (v : View) (course : Course) (new : Left) → StepBy v.left course (Err halts.Stopped) new → SentBy v course Stopped
-sent_halted v (Going left) new h = absurd (cc h.0)
-sent_halted v (Cut trouble) new h = absurd (cc h.0)
-sent_halted v Halted new h = refl
-
--- THE LAST RECORD, as what it makes of the swap
-pub ended_ok : (v : View) (answer : Result (Unit {0}) AppendFault) → IsWritten {T = Unit {0}} tt answer (Ok tt) → EndedBy v answer (Next (lives.Ended (ended_of v)))
-ended_ok v (Ok done) h = refl
-ended_ok v (Err faults.Plant) h = absurd (cc h)
-ended_ok v (Err faults.Stopped) h = absurd (cc h)
-ended_ok v (Err (faults.Full length size)) h = absurd h
-
-pub ended_stuck : (v : View) (answer : Result (Unit {0}) AppendFault) (what : What) → IsWritten {T = Unit {0}} tt answer (Err (halts.Trouble what)) → EndedBy v answer (Stuck v what)
-ended_stuck v (Ok done) what h = absurd (cc h)
-ended_stuck v (Err faults.Plant) what h = let e : what ≡ whats.Journal = cc h in ap (λ w. Stuck v w) e
-ended_stuck v (Err faults.Stopped) what h = absurd (cc h)
-ended_stuck v (Err (faults.Full length size)) what h = absurd h
-
-pub ended_stopped : (v : View) (answer : Result (Unit {0}) AppendFault) → IsWritten {T = Unit {0}} tt answer (Err halts.Stopped) → EndedBy v answer Stopped
-ended_stopped v (Ok done) h = absurd (cc h)
-ended_stopped v (Err faults.Plant) h = absurd (cc h)
-ended_stopped v (Err faults.Stopped) h = refl
-ended_stopped v (Err (faults.Full length size)) h = absurd h
+-- a device failed
+pub sent_failed : (v : View) (name : List ℕ) (work : Turned View) → CutBack v (whats.Device name) v.undo work → SentBy v (Cut (Device name)) work
+sent_failed v name work back = sent_back v (Cut (Device name)) v.left (whats.Device name) work (refl, (v.left.watch, refl)) back
 
 -- the same of an equal view
-pub sends_at : (old v : View) (was now : Seen) (course : Course) (work : Turned View) → old ≡ v → Sends old.left was now course → SentBy old course work → (x : Course) × Sends v.left was now x × SentBy v x work
-sends_at old v was now course work same sent by = (course, subst (λ (x : View). Sends x.left was now course) same sent, subst (λ x. SentBy x course work) same by)
+pub goes_at : (old v : View) (answer : Result Answer Fault) (work : Turned View) → old ≡ v → SentBy old (answered old.left.todo old.left.watch old.left.boot answer) work → SentBy v (answered v.left.todo v.left.watch v.left.boot answer) work
+goes_at old v answer work same by = subst (λ (x : View). SentBy x (answered x.left.todo x.left.watch x.left.boot answer) work) same by
 
-pub writes_at : (old v : View) (was now : Seen) (j k : Journal) (answer : Result (Unit {0}) AppendFault) (work : Turned View) → old ≡ v → Writes (last_of old) was now j k answer → EndedBy old answer work → (x : Result (Unit {0}) AppendFault) × Writes (last_of v) was now j k x × EndedBy v x work
-writes_at old v was now j k answer work same wrote by = (answer, subst (λ x. Writes (last_of x) was now j k answer) same wrote, subst (λ x. EndedBy x answer work) same by)
+pub next_at : (old v : View) (op : DeviceOp) → old ≡ v → next old.left.todo old.left.watch old.left.boot ≡ Some op → next v.left.todo v.left.watch v.left.boot ≡ Some op
+next_at old v op same comes = subst (λ (x : View). next x.left.todo x.left.watch x.left.boot ≡ Some op) same comes
 
-pub writes_stuck : (old v : View) (was now : Seen) (j k : Journal) (answer : Result (Unit {0}) AppendFault) (what : What) → old ≡ v → Writes (last_of old) was now j k answer → IsWritten {T = Unit {0}} tt answer (Err (halts.Trouble what))
-    → (x : Result (Unit {0}) AppendFault) × Writes (last_of v) was now j k x × EndedBy v x (Stuck v what)
-writes_stuck old v was now j k answer what same wrote is = (answer, subst (λ x. Writes (last_of x) was now j k answer) same wrote, ended_stuck v answer what is)
+-- a command that was answered so
+pub sends_by : (v : View) (was now : Seen) (j : Journal) (op : DeviceOp) (answer given : Result Answer Fault) (work : Turned View) → next v.left.todo v.left.watch v.left.boot ≡ Some op → Commanded op was now answer → answer ≡ given
+    → SentBy v (answered v.left.todo v.left.watch v.left.boot given) work → TurnOf v was now j j work
+sends_by v was now j op answer given work comes sent is by =
+    sends (answered v.left.todo v.left.watch v.left.boot given) (record { op = op; comes = comes; answer = given; sent = subst (λ a. Commanded op was now a) is sent; goes = refl }) refl by
 
 pub turn_at : (old v : View) (was now : Seen) (j k : Journal) (work : Turned View) → old ≡ v → TurnOf old was now j k work → TurnOf v was now j k work
 turn_at old v was now j k work same turn = subst (λ x. TurnOf x was now j k work) same turn

@@ -1,11 +1,10 @@
 -- A course on its way, and the values that have it, as contracts see them.
 use Rattle.std.specs.Prelude.{◌≡◌, ◌<◌, ◌++◌, ℕ, Bool, true, false, List, [], drop, length, Option, Some, None, Result, Ok, Err}
+use Rattle.lab_base.specs.declared.boot.Boot.{Boot as BootState}
+use Rattle.lab_base.specs.declared.what.What.{What}
 use Rattle.plant.specs.declared.device.DeviceOp.{DeviceOp}
-use Rattle.plant.specs.declared.device.Answer.{Answer}
-use Rattle.plant.specs.declared.device.Fault.{Fault}
-use Rattle.lab_model.specs.Courses.{Plan, Left, Watch, Course, Going, Cut, Halted, answered}
-use Rattle.swap_txn.specs.declared.halt.Halt.{Halt}
-use Rattle.swap_txn.specs.declared.halt.Halt.TheVariants.{Trouble, Stopped}
+use Rattle.plant.specs.declared.device.Answer.TheVariants.{State}
+use Rattle.lab_model.specs.Courses.{Plan, Left, Watch, Course, Going, Cut, answered}
 use Rattle.swap_txn.specs.Troubles.{what_of}
 use Rattle.swap_txn.specs.declared.stage.Stage.{Stage}
 use Rattle.swap_txn.specs.declared.stage.Stage.TheVariants.{Clear, Cable, Load, Boot, Done}
@@ -51,16 +50,15 @@ pub record IsPlace (plan : Plan) (todo : List DeviceOp) (stage : Stage) (at : �
   pub left : left_of plan stage at None ≡ record { todo = todo; boot = plan.boot; watch = None }
   pub place : IsAt plan stage at None
 
--- what a poll leads to: the node is up, or is polled again, or its trouble, or a stop
-abbrev pub WatchBy : List (List ℕ) → Course → Result Bool Halt → Watched → Type 0
+-- what a watched node's state leads to: the node is up, or is polled again, or its trouble
+abbrev pub WatchBy : List (List ℕ) → Course → Result Bool What → Watched → Type 0
 WatchBy boot (Going left) (Ok true) w = left ≡ record { todo = []; boot = boot; watch = None }
 WatchBy boot (Going left) (Ok false) w = left ≡ record { todo = []; boot = boot; watch = watch_of (Some w) }
-WatchBy boot (Cut trouble) result w = result ≡ Err (Trouble (what_of trouble))
-WatchBy boot Halted result w = result ≡ Err Stopped
+WatchBy boot (Cut trouble) result w = result ≡ Err (what_of trouble)
 WatchBy boot course result w = ⊥
 
--- a watched node after a poll that was answered so
-pub record IsPolledBy (old : Watched) (answer : Result Answer Fault) (result : Result Bool Halt) (new : Watched) : Type 0 where
+-- a watched node that told that state
+pub record IsSeenBy (old : Watched) (state : BootState) (result : Result Bool What) (new : Watched) : Type 0 where
   pub node : new.node ≡ old.node
   pub polls : (result ≡ Ok true → ⊥) → new.watch.polls < 64
-  pub leads : (boot : List (List ℕ)) → WatchBy boot (answered [] (watch_of (Some old)) boot answer) result new
+  pub leads : (boot : List (List ℕ)) → WatchBy boot (answered [] (watch_of (Some old)) boot (Ok (State state))) result new

@@ -3,7 +3,6 @@
 
 mod at;
 mod ended;
-mod halt;
 mod last;
 mod laws;
 mod live;
@@ -11,7 +10,6 @@ mod named;
 mod place;
 mod planned;
 mod sending;
-mod sent;
 mod stage;
 mod state;
 mod turned;

@@ -1,13 +1,12 @@
 use crate::at::At;
-use crate::halt::Halt;
 use crate::last::{begin_and_commit, way_back};
 use crate::sending::Sending;
 use crate::work::Work;
 use crate::write::write;
 use crate::{Live, Turned};
-use journal_disk::Journal;
+use journal_disk::{AppendFault, Journal};
 use journal_rec::{Encoded, Way};
-use lab_base::{Memory, Name};
+use lab_base::{Memory, Name, What};
 use plant::Plant;
 use std::alloc::Global;
 use std::marker::Model;
@@ -113,8 +112,9 @@ impl Planned {
                 let Planned { begin: _, work } = self;
                 Turned::Next(Live::Begun(At::of(work)))
             }
-            Err(Halt::Trouble(what)) => Turned::Stuck(self, what),
-            Err(Halt::Stopped) => Turned::Stopped,
+            Err(AppendFault::Plant) => Turned::Stuck(self, What::Journal),
+            Err(AppendFault::Stopped) => Turned::Stopped,
+            Err(AppendFault::Full { .. }) => unreachable!(),
         }
     }
 }

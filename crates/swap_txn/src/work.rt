@@ -1,15 +1,14 @@
 // A swap with work left.
 use crate::at::At;
-use crate::halt::Halt;
 use crate::sending::Sending;
 use crate::stage::Stage;
 use crate::way_back::WayBack;
 use crate::write::write;
 use crate::{Ended, Live, Turned};
-use journal_disk::Journal;
+use journal_disk::{AppendFault, Journal};
 use journal_rec::Encoded;
 use lab_base::{Name, What};
-use plant::Plant;
+use plant::{Answer, Fault, Plant};
 use std::marker::Model;
 
 /// A swap with work left, on its way or on its way back.
@@ -58,12 +57,14 @@ impl Drop for Work {
 }
 
 impl Work {
-    ghost use Rattle.std.specs.Prelude.{◌≡◌, Result, true, false};
+    ghost use Rattle.std.specs.Prelude.{◌≡◌, Result, Ok, Some, true, false};
+    ghost use Rattle.plant.specs.Calls.{Fits as IsAnswer};
+    ghost use Rattle.plant.specs.declared.device.DeviceOp.{DeviceOp as AnyOp};
     ghost use Rattle.journal_disk.specs.declared.fault.AppendFault.{AppendFault as Unwritten};
-    ghost use Rattle.lab_model.specs.Courses.{Course, nothing_left};
+    ghost use Rattle.lab_model.specs.Courses.{answered, next, nothing_left};
     ghost use Rattle.swap_txn.specs.declared.stage.Stage.TheVariants.{Done};
     ghost use Rattle.swap_txn.specs.States.{stage_of};
-    ghost use Rattle.swap_txn.specs.Steps.{Stands, Sends, Writes};
+    ghost use Rattle.swap_txn.specs.Steps.{Stands, Writes};
     ghost use Rattle.swap_txn.specs.Turns.{TurnOf, SentBy, EndedBy, HasRoom, last_of, state_of};
     ghost use Rattle.swap_txn.specs.Going.{CutBack, StaysAt};
 
@@ -119,16 +120,16 @@ impl Work {
         }
     }
 
-    /// Sends the next command.
-    fn send<P: Plant>(mut self, plant: &mut P) -> Turned<Work>
-        requires { stage_of self.plan self.left ≡ Done → ⊥ }
-        ensures sends { (course : Course) × Sends self.left (P.seen plant.old) (P.seen plant.new) course × SentBy self course result }
+    /// Goes on by the answer to the next command.
+    fn go_on(mut self, answer: Answer) -> Turned<Work>
+        requires is_left { stage_of self.plan self.left ≡ Done → ⊥ }
+        requires fits { (op : AnyOp) → next self.left.todo self.left.watch self.left.boot ≡ Some op → IsAnswer op answer }
+        ensures goes { SentBy self (answered self.left.todo self.left.watch self.left.boot (Ok answer)) result }
         ensures stays { StaysAt self result }
     {
-        match self.sending.step(plant) {
+        match self.sending.go_on(answer) {
             Ok(()) => Turned::Same(self),
-            Err(Halt::Trouble(what)) => self.turn_back(what),
-            Err(Halt::Stopped) => Turned::Stopped,
+            Err(what) => self.turn_back(what),
         }
     }
 
@@ -147,8 +148,9 @@ impl Work {
                 committed: self.commit,
                 why: self.why,
             })),
-            Err(Halt::Trouble(what)) => Turned::Stuck(self, what),
-            Err(Halt::Stopped) => Turned::Stopped,
+            Err(AppendFault::Plant) => Turned::Stuck(self, What::Journal),
+            Err(AppendFault::Stopped) => Turned::Stopped,
+            Err(AppendFault::Full { .. }) => unreachable!(),
         }
     }
 
@@ -160,9 +162,13 @@ impl Work {
         ensures stays { StaysAt self result }
     {
         if self.stage() == Stage::Done {
-            self.end(journal, plant)
-        } else {
-            self.send(plant)
+            return self.end(journal, plant);
+        }
+        let op = self.sending.next();
+        match plant.command(op) {
+            Ok(answer) => self.go_on(answer),
+            Err(Fault::Failed) => self.turn_back(What::Device(op.device())),
+            Err(Fault::Stopped) => Turned::Stopped,
         }
     }
 }
