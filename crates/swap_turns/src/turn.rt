@@ -56,7 +56,8 @@ fn reached(live: Live) -> TurnedSwap
     }
 }
 
-fn left_of(turned: Turned<Live>) -> TurnedSwap
+/// An open swap, by the answer of its state's turn.
+pub(crate) fn left_of(turned: Turned<Live>) -> TurnedSwap
     ensures { IsLeftBy turned result }
 {
     match turned {
