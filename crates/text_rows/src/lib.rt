@@ -2,7 +2,7 @@
 //! and `\0` are one byte each and `\\` is a backslash.
 //!
 //! ```text
-//! script    the commands of a script in short, and the line that is no command
+//! script    the commands of a script, a line each: the words, and blocks in `< >`; and the line that is no command
 //! reply     all replies, and which of them close the controller
 //! ptop      a lab: how many switches, nodes and trunks it has, and its text; `sides` and `largest`: see `ptops.rt`
 //! top       the text of a wiring
