@@ -19,11 +19,11 @@
 //! file FILE              what is in the file
 //! there FILE             whether the file or folder is there
 //! remove FOLDER          nothing, and the folder is gone
-//! turns LAST FILE        the steps where the marked lines of the script stand 0, 1, .. LAST times
+//! repeats LAST FILE      the steps where the marked lines of the script stand 0, 1, .. LAST times
 //! long COUNT FILE        what is written where they stand so often
-//! numbers LAST DRILL FILE        where the drill of number 1, 2, .. LAST stands at the mark
+//! each_drill LAST DRILL FILE     what is written where the drill of number 1, 2, .. LAST stands at the mark
 //! cuts CALLS ENDS FILE.. how many numbers of each drill cut the command of the last file, behind the others, each leading to one of the ends
-//! told CALLS ENDS FILE.. the same of failures, where `status` stands twice behind the command, and then `recover`
+//! reported CALLS ENDS FILE..     the same of failures, where `status` stands twice behind the command, and then `recover`
 //! order LETTERS END [DRILL , ..]         whether swaps that are turned in that order lead to the end
 //! ```
 //!
@@ -206,7 +206,7 @@ fn told_of_numbers(
     last: &mut Option<MemLab>,
 ) -> Result<String, Untold> {
     match words {
-        ["turns", most, file] => {
+        ["repeats", most, file] => {
             turns(
                 rt.alloc(),
                 script_of(rt, file)?.as_str(),
@@ -222,7 +222,7 @@ fn told_of_numbers(
                 last,
             )
         }
-        ["numbers", most, drill, file] => {
+        ["each_drill", most, drill, file] => {
             let script = script_of(rt, file)?;
             numbers(
                 rt.alloc(),
@@ -235,7 +235,7 @@ fn told_of_numbers(
         ["cuts", calls, ends, others @ .., file] => {
             cuts(rt, false, calls.parse()?, [*ends, *file], others, last)
         }
-        ["told", calls, ends, others @ .., file] => {
+        ["reported", calls, ends, others @ .., file] => {
             cuts(rt, true, calls.parse()?, [*ends, *file], others, last)
         }
         ["order", letters, end, drills @ ..] => ordered(rt, letters, end, drills, last),
