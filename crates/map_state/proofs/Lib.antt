@@ -23,3 +23,4 @@ mod ListedLaws
 mod Served
 pub mod GuestLaws
 mod SpareLaws
+mod SpeedLaws

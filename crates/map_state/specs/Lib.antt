@@ -1,6 +1,7 @@
 pub mod Nodes
 pub mod Ties
 pub mod Softs
+pub mod Speeds
 pub mod Tables
 pub mod Members
 pub mod Hosted

@@ -1,5 +1,5 @@
 -- The members of classes, counted by class and type.
-use Rattle.std.specs.Prelude.{◌≡◌, ◌<◌, ◌+◌, ◌*◌, ◌==◌, ℕ, List, length, nat_lt, count_by, position, option_map, slice_index_or, Option, Some, None, if◌then◌else◌}
+use Rattle.std.specs.Prelude.{◌≡◌, ◌<◌, ◌+◌, ◌*◌, ◌==◌, ℕ, Bool, true, false, List, length, nat_lt, count_by, position, option_map, slice_index_or, Option, Some, None, if◌then◌else◌}
 use Rattle.lab_base.specs.Names.{same_name}
 use Rattle.virt_topo.specs.declared.limits.TheConstants.{MAX_TYPES}
 use Rattle.virt_topo.specs.declared.wiring.Asks.{Asks}
@@ -27,6 +27,11 @@ class_place w c kind = option_map (λ k. c * MAX_TYPES + k) (type_place w c kind
 abbrev pub asked_place : Wiring → Asks → List ℕ → Option ℕ
 asked_place w (Plain t) kind = None
 asked_place w (InClass c) kind = if nat_lt c (length w.classes) then class_place w c kind else None
+
+-- one type is asked for, and so no class
+abbrev pub is_plain : Asks → Bool
+is_plain (Plain t) = true
+is_plain (InClass c) = false
 
 -- 1 at that place, and 0 elsewhere
 abbrev pub one_at : Option ℕ → ℕ → ℕ

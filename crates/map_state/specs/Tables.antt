@@ -13,6 +13,7 @@ use Rattle.map_state.specs.declared.table.Table.{Table}
 use Rattle.map_state.specs.declared.search.Search.{Search}
 use Rattle.map_state.specs.Nodes.{numbers_of, no_row}
 use Rattle.map_state.specs.Softs.{AreSofts}
+use Rattle.map_state.specs.Speeds.{AreSpeeds}
 use Rattle.map_state.specs.Ties.{AreTies}
 
 -- all switches are joined
@@ -42,6 +43,7 @@ pub record IsTableOf (lab : Lab) (w : Wiring) (x : Table) : Type 0 where
   pub ties : AreTies w x.ties.items
   pub joined : (x.joined ≡ true) ↔ AreAllJoined lab
   pub softs : AreSofts lab w x.softs
+  pub speeds : AreSpeeds lab w x.speeds
 
 -- what the node maps are made from, and what their tries look up: the tables, the candidates, and their rooms
 pub record IsSearch (x : Search) : Type 0 where

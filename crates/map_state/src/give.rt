@@ -4,7 +4,7 @@ ghost use Rattle.std.specs.Prelude.{OnOk};
 ghost use Rattle.lab_model.specs.Shapes.{IsShaped};
 ghost use Rattle.lab_model.specs.Rules.{no_place};
 ghost use Rattle.node_maps.specs.NodeMaps.{plugs_from};
-ghost use Rattle.node_maps.specs.Indexed.{AreOrdered, are_in_order, fits};
+ghost use Rattle.node_maps.specs.Indexed.{AreOrdered, are_in_order, fits, ifaces_of};
 ghost use Rattle.map_state.specs.Nodes.{is_host, is_on, numbers_of, changes_of, no_end};
 ghost use Rattle.map_state.specs.States.{IsIdle, IsGiving, IsNoted};
 ghost use Rattle.map_state.specs.Hosted.{IsHosting};
@@ -111,6 +111,25 @@ pub(crate) fn are_in_order(ends: &[End], listed: &[u16], ifaces: &[NodeIface]) -
         }
     }
     true
+}
+
+/// Whether each end of a virtual node fits the interface of its own place on a node. Each is asked where the speeds don't tell.
+pub(crate) fn are_own_in_order(search: &Search, virt: usize, node: NodeId) -> bool
+    requires search { IsSearch search.now }
+    requires virt { virt < length search.now.mapper.wiring.now.nodes }
+    requires node { node.0 < length search.now.mapper.lab.now.nodes }
+    ensures { result ≡ are_in_order (map (λ k. slice_index_or search.now.mapper.ends.now k no_end)
+        (numbers_of 0 (λ e. e.node == virt) search.now.mapper.ends.now)) (ifaces_of 0 search.now.mapper.lab.now.ifaces node.0) }
+{
+    let own = search.table.own[virt].as_slice();
+    let ifaces = search.mapper.ifaces.of(node);
+    if own.len() > ifaces.len() {
+        return false;
+    }
+    if search.table.speeds.suffice(virt, node) {
+        return true;
+    }
+    are_in_order(search.mapper.ends, own, ifaces)
 }
 
 /// Notes the interface of its own place for each end of these numbers.

@@ -6,7 +6,7 @@ ghost use Rattle.cost_rule.specs.Cost.{nodes_in_use, soft as soft_in};
 ghost use Rattle.lab_model.specs.Shapes.{IsShaped, node_at, has_name};
 ghost use Rattle.lab_model.specs.Rules.{is_asked, no_place, place_at};
 ghost use Rattle.map_state.specs.Softs.{AreSofts};
-ghost use Rattle.map_state.specs.Members.{AreMembers, asked_place};
+ghost use Rattle.map_state.specs.Members.{AreMembers, asked_place, is_plain};
 ghost use Rattle.map_state.specs.Hosted.{IsHosting, guests_at, placed_at};
 
 use crate::members::{Members, virt_place};
@@ -17,7 +17,7 @@ use node_maps::Place;
 use phys_lab::Lab;
 use std::alloc::Global;
 use std::mem;
-use virt_topo::{MAX_TOPOLOGY_NODES, Mapping, Wiring};
+use virt_topo::{Asks, MAX_TOPOLOGY_NODES, Mapping, Wiring};
 
 /// The soft cost after a move, and where the virtual node is counted then by class and type, if it is.
 #[derive(Clone, Copy)]
@@ -50,6 +50,14 @@ fn kind_of(mapping: &Mapping, virt: usize) -> Name
     ensures { result ≡ (slice_index_or mapping.now.places virt no_place).1 }
 {
     mapping.places.as_slice()[virt].1
+}
+
+/// Whether a virtual node asks for one type, and so for no class.
+fn is_plain(wiring: &Wiring, virt: usize) -> bool
+    requires { virt < length wiring.now.nodes }
+    ensures { result ≡ is_plain (virt_at wiring.now virt).asks }
+{
+    matches!(wiring.nodes.as_slice()[virt].asks, Asks::Plain(_))
 }
 
 /// A sum, with two parts more and two less.
@@ -220,6 +228,10 @@ impl Hosting {
         let old = &mapping.places.as_slice()[virt];
         let before = softs.at(lab, wiring, virt, old.0);
         let after = softs.at(lab, wiring, virt, place.0);
+        if is_plain(wiring, virt) {
+            let soft = changed(self.soft, (after, 0), (before, 0));
+            return (soft, None);
+        }
         if old.1 == place.1 {
             let soft = changed(self.soft, (after, 0), (before, 0));
             return (soft, self.members.counted(virt));

@@ -15,6 +15,7 @@ mod search;
 mod serving;
 mod softs;
 mod spare;
+mod speeds;
 mod state;
 mod table;
 mod ties;

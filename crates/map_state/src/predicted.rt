@@ -17,7 +17,7 @@ ghost use Rattle.map_state.specs.Nodes.{changes_of, numbers_of};
 ghost use Rattle.map_state.specs.Hosted.{placed_at};
 ghost use Rattle.map_state.specs.Tables.{IsSearch};
 
-use crate::give::are_in_order;
+use crate::give::are_own_in_order;
 use crate::search::Search;
 use crate::state::MapState;
 use cost_rule::Parts;
@@ -93,11 +93,7 @@ impl MapState {
         if guests[place.0.0 as usize] != 0 {
             return false;
         }
-        are_in_order(
-            search.mapper.ends,
-            search.table.own[virt].as_slice(),
-            search.mapper.ifaces.of(place.0),
-        )
+        are_own_in_order(search, virt, place.0)
     }
 
     /// The parts of the cost after a move of a virtual node to another of its candidates, but for the uses of trunks, and where it is counted then. What

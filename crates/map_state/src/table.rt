@@ -8,6 +8,7 @@ ghost use Rattle.map_state.specs.Nodes.{numbers_of};
 ghost use Rattle.map_state.specs.Tables.{AreAllJoined, AreFirsts, AreRows, AreOwn, IsTableOf};
 
 use crate::softs::Softs;
+use crate::speeds::Speeds;
 use crate::ties::{Tie, ties_of};
 use lab_base::{Items, Memory, NodeId, SwitchId};
 use node_maps::End;
@@ -31,6 +32,7 @@ pub struct Table {
     /// All switches are joined.
     pub(crate) joined: bool,
     pub(crate) softs: Softs,
+    pub(crate) speeds: Speeds,
 }
 
 fn push_rows(rows: &mut Vec<EndRow>, number: u16, segment: &Segment) -> Result<(), Memory>
@@ -145,6 +147,7 @@ impl Table {
         let ties = ties_of(alloc, wiring)?;
         let joined = are_all_joined(lab);
         let softs = Softs::of(alloc, lab, wiring)?;
+        let speeds = Speeds::of(alloc, lab, wiring, ends)?;
         Ok(Table {
             rows,
             own,
@@ -153,6 +156,7 @@ impl Table {
             ties,
             joined,
             softs,
+            speeds,
         })
     }
 

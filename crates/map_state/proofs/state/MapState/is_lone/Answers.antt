@@ -1,16 +1,11 @@
-use Rattle.std.proofs.Common.{◌≡◌, ◌<◌, ◌∙◌, ◌==◌, ℕ, List, length, map, get_or, All, ap, sym, subst, arith}
+use Rattle.std.proofs.Common.{◌≡◌, ◌<◌, ◌∙◌, ℕ, List, length, get_or, ap, sym, subst, arith}
 use Rattle.std.proofs.lemmas.List.{get_or_default, get_or_read}
 use Rattle.lab_model.specs.Shapes.{Place}
 use Rattle.lab_model.specs.Rules.{no_place}
-use Rattle.node_maps.specs.declared.ends.End.{End}
-use Rattle.node_maps.specs.Indexed.{ifaces_of, are_in_order}
 use Rattle.map_state.specs.declared.state.MapState.{MapState}
 use Rattle.map_state.specs.declared.search.Search.{Search}
-use Rattle.map_state.specs.Nodes.{numbers_of, no_end}
 use Rattle.map_state.specs.Hosted.{guests_at}
 use Rattle.map_state.specs.States.{IsMapState}
-use Rattle.map_state.proofs.StateLaws.{numbers_in}
-use Rattle.map_state.proofs.LoneLaws.{own_listed}
 use Rattle.map_state.proofs.state.MapState.is_lone.Goals as goal
 
 -- the guests that are read of the node of a virtual node, and of another node
@@ -39,26 +34,18 @@ returns-then-index-ne1 c = (
       (guests_here c.args.search.now c.args.self.now c.as_slice.result.now c.args.virt c.index.result.now c.index-as_slice-virt.result c.requires.state c.requires.virt c.as_slice.ensures c.index.ensures ∙ lone.alone)),
 )
 
-pub are_in_order-requires : goal.are_in_order-requires
-are_in_order-requires c =
-    let x = c.args.search.now in
-    let own = own_listed x c.args.virt c.as_slice-2.result.now c.index-3.result.now c.requires.search c.requires.virt c.as_slice-2.ensures c.index-3.ensures in
-    subst (λ (l : List ℕ). All (λ (k : ℕ). k < length x.mapper.ends.now) l) (sym own) (numbers_in (λ e. e.node == c.args.virt) x.mapper.ends.now)
+pub are_own_in_order-requires-clause-virt : goal.are_own_in_order-requires-clause-virt
+are_own_in_order-requires-clause-virt c = c.requires.virt
 
 pub returns : goal.returns
 returns c =
     let x = c.args.search.now in
     let b = c.args.self.now in
     let n = c.args.place.now.0.0 in
-    let end : ℕ → End = λ k. get_or x.mapper.ends.now k no_end in
-    let own = own_listed x c.args.virt c.as_slice-2.result.now c.index-3.result.now c.requires.search c.requires.virt c.as_slice-2.ensures c.index-3.ensures in
-    let ifaces = c.of.ensures ∙ c.requires.search.mapper.ifaces.each n in
-    let test : c.are_in_order.result ≡ are_in_order (map end (numbers_of 0 (λ e. e.node == c.args.virt) x.mapper.ends.now)) (ifaces_of 0 x.mapper.lab.now.ifaces n) =
-    c.are_in_order.ensures ∙ (λ j. are_in_order (map end (own j)) (ifaces j)) in
     let here = guests_here x b c.as_slice.result.now c.args.virt c.index.result.now c.index-as_slice-virt.result c.requires.state c.requires.virt c.as_slice.ensures c.index.ensures in
     let there = guests_there x b n c.index-2.result.now c.requires.state c.requires.node c.index-2.ensures in (
-      λ is. record { alone = sym here ∙ c.if-index-ne1.false; empty = sym there ∙ c.if-index-ne0.false; in_order = sym test ∙ is },
-      λ lone. test ∙ lone.in_order,
+      λ is. record { alone = sym here ∙ c.if-index-ne1.false; empty = sym there ∙ c.if-index-ne0.false; in_order = sym c.are_own_in_order.ensures ∙ is },
+      λ lone. c.are_own_in_order.ensures ∙ lone.in_order,
     )
 
 pub index-requires : goal.index-requires
@@ -78,12 +65,6 @@ index-requires-2 c =
     let node = c.requires.node in
     let each = c.requires.state.hosting.one_each in
     omega (arith, node, each)
-
-pub index-requires-3 : goal.index-requires-3
-index-requires-3 c =
-    let virt = c.requires.virt in
-    let each = c.requires.search.table.own.one_each in
-    omega (arith, virt, each)
 
 pub returns-then-index-ne0 : goal.returns-then-index-ne0
 returns-then-index-ne0 c = (
