@@ -1,6 +1,6 @@
 // Moves and exchanges of virtual nodes in the map at hand.
 ghost use Rattle.std.specs.Prelude.{◌≡◌, ◌<◌, ◌≤◌, IfOk, OnOk, IsTrue, true, false, Some, Contains};
-ghost use Rattle.std.specs.Prelude.{List, [], None, length, slice_index_or, slice_set};
+ghost use Rattle.std.specs.Prelude.{ℕ, List, [], None, length, slice_index_or, slice_set};
 ghost use Rattle.lab_base.specs.declared.ids.IfaceId.{IfaceId as IfaceIdSeen};
 ghost use Rattle.virt_topo.specs.declared.mapping.Mapping.{Mapping as MappingSeen};
 ghost use Rattle.virt_topo.specs.Wirings.{virt_at};
@@ -246,9 +246,24 @@ impl Tried {
         Ok(false)
     }
 
-    /// Moves a virtual node to its candidate of a number, where the map is feasible and costs less than that. One that stays, or that
-    /// finds the node full, is not placed.
-    pub fn move_if_cheaper(
+    /// Whether a virtual node's candidate of a number is on another node that is full.
+    fn is_shut(&self, search: &Search, _rule: &StepRule, node: usize, number: usize) -> bool
+        requires search { IsSearch search.now }
+        requires tried { IsTried search.now _rule.now.number self.now }
+        requires within { node < length (choices (sought_of search.now _rule.now.number)) }
+        requires number { number < length (candidates_at (sought_of search.now _rule.now.number) node) }
+        ensures none { IsTrue result → moved (sought_of search.now _rule.now.number) self.now.state.mapping node
+            (slice_index_or (candidates_at (sought_of search.now _rule.now.number) node) number no_place) ≡ None }
+        ensures ruled_out { IsTrue result → (below : ℕ) → IsNoLess (sought_of search.now _rule.now.number) below
+            (slice_set self.now.state.mapping.places node
+            (slice_index_or (candidates_at (sought_of search.now _rule.now.number) node) number no_place)) }
+    {
+        let room = search.rooms.at(node, number);
+        self.state.is_full(search, node, room)
+    }
+
+    /// Moves a virtual node to its candidate of a number, where the map is feasible and costs less than that. One that stays is not placed.
+    fn move_on_if_cheaper(
         &mut self,
         alloc: Global,
         search: &Search,
@@ -277,16 +292,49 @@ impl Tried {
             (slice_index_or (candidates_at (sought_of search.now rule.now.number) node) number no_place))) }
     {
         self.ruled_out = false;
-        let room = search.rooms.at(node, number);
-        if self.state.is_full(search, node, room) {
-            self.ruled_out = true;
-            return Ok(false);
-        }
         let place = search.candidates.at(node, number);
         if *place == self.state.mapping.places.as_slice()[node] {
             return Ok(u128::from(self.cost) < below);
         }
         let yes = self.move_to_if_cheaper(alloc, search, rule, node, place, below)?;
+        Ok(yes)
+    }
+
+    /// Moves a virtual node to its candidate of a number, where the map is feasible and costs less than that. One that
+    /// finds the node full is not placed.
+    pub fn move_if_cheaper(
+        &mut self,
+        alloc: Global,
+        search: &Search,
+        rule: &StepRule,
+        node: usize,
+        number: usize,
+        below: u128,
+    ) -> Result<bool, Memory>
+        requires search { IsSearch search.now }
+        requires tried { IsTried search.now rule.now.number self.old }
+        requires within { node < length (choices (sought_of search.now rule.now.number)) }
+        requires number { number < length (candidates_at (sought_of search.now rule.now.number) node) }
+        ensures tried { OnOk result (IsTried search.now rule.now.number self.new) }
+        ensures map { IfOk result (λ yes. yes ≡ true
+            → moved (sought_of search.now rule.now.number) self.old.state.mapping node
+            (slice_index_or (candidates_at (sought_of search.now rule.now.number) node) number no_place) ≡ Some self.new.state.mapping) }
+        ensures below { IfOk result (λ yes. yes ≡ true → self.new.cost < below) }
+        ensures same { IfOk result (λ yes. yes ≡ false → self.new.state.mapping ≡ self.old.state.mapping) }
+        ensures same_cost { IfOk result (λ yes. yes ≡ false → self.new.cost ≡ self.old.cost) }
+        ensures over { IfOk result (λ yes. yes ≡ false → (m : MappingSeen)
+            → moved (sought_of search.now rule.now.number) self.old.state.mapping node
+            (slice_index_or (candidates_at (sought_of search.now rule.now.number) node) number no_place) ≡ Some m
+            → below ≤ price (sought_of search.now rule.now.number) m) }
+        ensures ruled_out { IfOk result (λ yes. yes ≡ false → self.new.ruled_out ≡ true
+            → IsNoLess (sought_of search.now rule.now.number) below (slice_set self.old.state.mapping.places node
+            (slice_index_or (candidates_at (sought_of search.now rule.now.number) node) number no_place))) }
+    {
+        if self.is_shut(search, rule, node, number) {
+            self.ruled_out = true;
+            return Ok(false);
+        }
+        let yes = self.move_on_if_cheaper(alloc, search, rule, node, number, below)?;
         Ok(yes)
     }
 
@@ -392,7 +440,11 @@ impl Tried {
         let _kept = search.mapper.lab.range();
         let node = search.rooms.virt(first);
         let number = search.rooms.number(node, second);
-        let yes = self.move_if_cheaper(alloc, search, rule, node, number, below)?;
+        // asked here, so that a try which finds the node full makes no call
+        if self.is_shut(search, rule, node, number) {
+            return Ok(false);
+        }
+        let yes = self.move_on_if_cheaper(alloc, search, rule, node, number, below)?;
         Ok(yes)
     }
 }

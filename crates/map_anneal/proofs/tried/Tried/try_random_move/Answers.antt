@@ -1,4 +1,4 @@
-use Rattle.std.proofs.Common.{◌≡◌, ◌<◌, ◌%◌, ◌∙◌, ℕ, length, sym, ap, arith}
+use Rattle.std.proofs.Common.{◌≡◌, ◌<◌, ◌%◌, ◌∙◌, ℕ, length, Option, Some, None, sym, ap, arith}
 use Rattle.virt_topo.specs.declared.mapping.Mapping.{Mapping}
 use Rattle.map_state.proofs.Choices.{choice_some}
 use Rattle.map_anneal.specs.Sought.{Sought, choices, candidates_at, moved}
@@ -31,8 +31,8 @@ number-number-requires-clause-few g c =
     let own = own_count s.lab (choices s) search.rooms.now v rooms within in
     omega (arith, own, few_candidates s.lab s.free s.wiring v c.range-kept.ensures.lab within)
 
-pub move_if_cheaper-requires-clause-number : goal.move_if_cheaper-requires-clause-number
-move_if_cheaper-requires-clause-number g c =
+pub move_on_if_cheaper-requires-clause-number : goal.move_on_if_cheaper-requires-clause-number
+move_on_if_cheaper-requires-clause-number g c =
     let search = c.args.search.now in
     let cs = choices (sought_of search c.args.rule.now.number) in
     let v = c.virt-node.result in
@@ -77,11 +77,11 @@ returns-clause-over g c = λ is m found.
     (c.virt-node.ensures ∙ ap (λ (n : ℕ). c.args.first % n) count) (c.number-number.ensures ∙ ap (λ (n : ℕ). c.args.second % n) own)
     ∙ found)
 
-pub move_if_cheaper-requires-clause-tried : goal.move_if_cheaper-requires-clause-tried
-move_if_cheaper-requires-clause-tried g c = c.requires.tried
+pub move_on_if_cheaper-requires-clause-tried : goal.move_on_if_cheaper-requires-clause-tried
+move_on_if_cheaper-requires-clause-tried g c = c.requires.tried
 
-pub move_if_cheaper-requires-clause-within : goal.move_if_cheaper-requires-clause-within
-move_if_cheaper-requires-clause-within g c =
+pub move_on_if_cheaper-requires-clause-within : goal.move_on_if_cheaper-requires-clause-within
+move_on_if_cheaper-requires-clause-within g c =
     let search = c.args.search.now in
     let s = sought_of search c.args.rule.now.number in
     let count = rooms_count s.lab (choices s) search.rooms.now (search_rooms search c.args.rule.now.number c.requires.search) in
@@ -98,3 +98,45 @@ returns-clause-same g c = c.in_ok-yes.ensures.same
 
 pub returns-clause-same_cost : goal.returns-clause-same_cost
 returns-clause-same_cost g c = c.in_ok-yes.ensures.same_cost
+
+pub is_shut-requires-clause-number : goal.is_shut-requires-clause-number
+is_shut-requires-clause-number g c =
+    let search = c.args.search.now in
+    let cs = choices (sought_of search c.args.rule.now.number) in
+    let v = c.virt-node.result in
+    let rooms = search_rooms search c.args.rule.now.number c.requires.search in
+    let count = rooms_count search.mapper.lab.now cs search.rooms.now rooms in
+    let within : v < length cs = omega (arith, c.virt-node.ensures, count, c.requires.some) in
+    let own = own_count search.mapper.lab.now cs search.rooms.now v rooms within in
+    let some = choice_some cs c.args.self.now.state.mapping.places v c.requires.tried.state.state.choice within in
+    omega (arith, c.number-number.ensures, own, some)
+
+pub is_shut-requires-clause-within : goal.is_shut-requires-clause-within
+is_shut-requires-clause-within g c =
+    let search = c.args.search.now in
+    let s = sought_of search c.args.rule.now.number in
+    let count = rooms_count s.lab (choices s) search.rooms.now (search_rooms search c.args.rule.now.number c.requires.search) in
+    omega (arith, c.virt-node.ensures, count, c.requires.some)
+
+pub is_shut-requires-clause-tried : goal.is_shut-requires-clause-tried
+is_shut-requires-clause-tried g c = c.requires.tried
+
+never : (m : Mapping) → ◌≡◌ {A = Option Mapping} None (Some m) → ⊥
+never m e = absurd (cc e)
+
+pub returns-then-is_shut-clause-over : goal.returns-then-is_shut-clause-over
+returns-then-is_shut-clause-over g c = λ is m found.
+    let search = c.args.search.now in
+    let s = sought_of search c.args.rule.now.number in
+    let v = c.virt-node.result in
+    let rooms = search_rooms search c.args.rule.now.number c.requires.search in
+    let count = rooms_count s.lab (choices s) search.rooms.now rooms in
+    let within : v < length (choices s) = omega (arith, c.virt-node.ensures, count, c.requires.some) in
+    let own = own_count s.lab (choices s) search.rooms.now v rooms within in
+    absurd (never m (sym (c.is_shut.ensures.none c.if-is_shut.true)
+    ∙ named_is s c.args.self.now.state.mapping c.args.first c.args.second v c.number-number.result
+    (c.virt-node.ensures ∙ ap (λ (n : ℕ). c.args.first % n) count) (c.number-number.ensures ∙ ap (λ (n : ℕ). c.args.second % n) own)
+    ∙ found))
+
+pub returns-then-is_shut-clause-tried : goal.returns-then-is_shut-clause-tried
+returns-then-is_shut-clause-tried g c = c.requires.tried
