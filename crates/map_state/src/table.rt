@@ -15,7 +15,7 @@ use node_maps::End;
 use phys_lab::Lab;
 use std::alloc::Global;
 use trunk_sums::{Crossings, EndRow};
-use virt_topo::{MAX_ENDS, MAX_SEGMENT_ENDS, Segment, Wiring};
+use virt_topo::{MAX_ENDS, MAX_KBPS, MAX_SEGMENT_ENDS, Segment, Wiring};
 
 /// The tables of a lab and a wiring that tries use.
 #[derive(Drop)]
@@ -36,7 +36,8 @@ pub struct Table {
 }
 
 fn push_rows(rows: &mut Vec<EndRow>, number: u16, segment: &Segment) -> Result<(), Memory>
-    requires { length segment.now.ends ≤ MAX_SEGMENT_ENDS }
+    requires few { length segment.now.ends ≤ MAX_SEGMENT_ENDS }
+    requires slow { segment.now.kbps ≤ MAX_KBPS }
     ensures { OnOk result (rows.new.items
         ≡ rows.old.items ++ replicate (length segment.now.ends) (record { segment = number; ends = length segment.now.ends; kbps = segment.now.kbps })) }
 {
@@ -45,7 +46,7 @@ fn push_rows(rows: &mut Vec<EndRow>, number: u16, segment: &Segment) -> Result<(
         rows.push(EndRow {
             segment: number,
             ends: ends as u16,
-            kbps: segment.kbps,
+            kbps: segment.kbps as u32,
         })?;
     }
     Ok(())

@@ -41,20 +41,20 @@ pub(crate) fn with_bit(word: u64, trunk: u16, set: bool) -> u64
 
 /// The kbps of so many ends as a word has bits.
 #[inline(always)]
-pub(crate) fn kbps_of(word: u64, kbps: u64) -> u64
+pub(crate) fn kbps_of(word: u64, kbps: u32) -> u64
     requires { kbps ≤ MAX_KBPS }
     ensures is { result ≡ count_ones word * kbps }
     ensures small { result ≤ MAX_TRUNKS * MAX_KBPS }
 {
-    u64::from(word.count_ones()) * kbps
+    u64::from(word.count_ones()) * u64::from(kbps)
 }
 
-/// Whether a segment is a link, of which a plug crosses more than one trunk.
+/// Whether a segment is a link.
 #[inline(always)]
-fn is_far_link(row: EndRow, crossed: &[Crossing]) -> bool
+fn is_link(row: EndRow) -> bool
     ensures { IsTrue result → row.ends ≡ 2 }
 {
-    row.ends == 2 && crossed.len() > 1
+    row.ends == 2
 }
 
 impl Gains {
@@ -150,8 +150,8 @@ impl Sums {
         self.gains[row.segment as usize] = gains;
     }
 
-    /// Marks the trunks of a segment once one of its plugs went from some first sides to others and crossed these, by the counts as they are now. Where
-    /// they are more than one of a link, they are marked together.
+    /// Marks the trunks of a segment once one of its plugs went from some first sides to others and crossed these, by the counts as they are now. Those
+    /// of a link are marked together.
     #[inline(always)]
     pub(crate) fn mark_moved(&mut self, row: EndRow, crossed: &[Crossing], from: u64, to: u64)
         requires room { MAX_TRUNKS * row.segment + MAX_TRUNKS ≤ length self.old.counts.items }
@@ -167,7 +167,7 @@ impl Sums {
             → (on_first self.old row t ≡ k) ⊎ (0 < ups t crossed.now + downs t crossed.now)
             → IsGain row.ends (on_first self.old row t) t (gains_of self.new row) }
     {
-        if is_far_link(row, crossed) {
+        if is_link(row) {
             let gains = self.gains[row.segment as usize];
             self.gains[row.segment as usize] = gains.of_link(from, to);
             return;

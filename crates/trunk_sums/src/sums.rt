@@ -14,7 +14,7 @@ use virt_topo::{MAX_ENDS, MAX_KBPS, MAX_SEGMENT_ENDS, Wiring};
 /// The segment of an end, the number of ends there, and its kbps.
 #[derive(Clone, Copy)]
 pub struct EndRow {
-    pub kbps: u64,
+    pub kbps: u32,
     pub segment: u16,
     pub ends: u16,
 }
@@ -32,14 +32,14 @@ pub struct Sums {
 
 /// The kbps that a segment uses of a trunk with so many plugs on one side.
 #[inline(always)]
-pub(crate) fn share_of(ends: u16, on: u16, kbps: u64) -> u64
+pub(crate) fn share_of(ends: u16, on: u16, kbps: u32) -> u64
     requires within { on ≤ ends }
     requires few { ends ≤ MAX_SEGMENT_ENDS }
     requires slow { kbps ≤ MAX_KBPS }
     ensures is { result ≡ share ends on kbps }
     ensures small { result ≤ MAX_SEGMENT_ENDS * MAX_KBPS }
 {
-    u64::from(lesser(ends, on)) * kbps
+    u64::from(lesser(ends, on)) * u64::from(kbps)
 }
 
 /// Whether a plug crosses no trunk.

@@ -14,9 +14,13 @@ loop-segment-init c = record {
   each = λ k lt. absurd (let none = ap length c.new-rows.ensures.items in omega (arith, lt, none));
 }
 
-pub push_rows-requires : goal.push_rows-requires
-push_rows-requires c =
+pub push_rows-requires-clause-few : goal.push_rows-requires-clause-few
+push_rows-requires-clause-few c =
     (own_limits c.args.wiring.now c.as_slice-segment-items.result.now c.loop-segment.segment-index c.segment-item.result c.as_slice-segment-items.ensures (sound_keeps c.args.wiring.now c.requires) c.loop-segment-test.true c.segment-item.is).few
+
+pub push_rows-requires-clause-slow : goal.push_rows-requires-clause-slow
+push_rows-requires-clause-slow c =
+    (own_limits c.args.wiring.now c.as_slice-segment-items.result.now c.loop-segment.segment-index c.segment-item.result c.as_slice-segment-items.ensures (sound_keeps c.args.wiring.now c.requires) c.loop-segment-test.true c.segment-item.is).slow
 
 pub loop-segment-preserved : goal.loop-segment-preserved
 loop-segment-preserved c =
