@@ -7,7 +7,7 @@ use Rattle.lab_model.specs.Shapes.{Place}
 use Rattle.assign_core.specs.Exact.{count}
 use Rattle.assign_core.proofs.Choosing.{get_or_here}
 
--- cutting off before a product with more changes nothing behind it
+-- cutting off before a product with more changes nothing after it
 pub cut_product : (a r c : ℕ) → min (min a c * r) c ≡ min (a * r) c
 cut_product a zero c = omega arith
 cut_product a (suc r) c = elim (cases_lt a c) [

@@ -35,9 +35,9 @@ use Rattle.cost_rule.proofs.PartLaws.{nodes_small, soft_small}
 use Rattle.cost_rule.proofs.Sums.{sum_more, sum_same}
 use Rattle.cost_rule.proofs.UseLaws.{parts_without_uses}
 use Rattle.node_maps.specs.NodeMaps.{ArePlaces}
-use Rattle.map_state.specs.Hosted.{guests_at}
-use Rattle.map_state.proofs.GuestLaws.{one_if}
-use Rattle.map_state.proofs.HostingLaws.{any_counted, guests_of}
+use Rattle.map_state.specs.Hosted.{hosted_at}
+use Rattle.map_state.proofs.HostedNodeLaws.{one_if}
+use Rattle.map_state.proofs.HostingLaws.{any_counted, hosted_of}
 use Rattle.assign_core.specs.Prefixes.{first_soft, first_parts}
 
 -- NODES IN USE
@@ -46,13 +46,13 @@ nodes_of places = map (λ (q : Place). q.0.0) places
 
 -- one place more is on a node more where none is there
 pub used_more : (places : List Place) (p : Place)
-    → different same_node (nodes_of (places ++ p ∷ [])) ≡ different same_node (nodes_of places) + one_if (eqb (guests_at places p.0.0) 0)
+    → different same_node (nodes_of (places ++ p ∷ [])) ≡ different same_node (nodes_of places) + one_if (eqb (hosted_at places p.0.0) 0)
 used_more places p =
     let xs = nodes_of places in
     let n = p.0.0 in
     ap (different same_node) (map-append (λ (q : Place). q.0.0) places (p ∷ [])) ∙ within same_node Decides-eqb xs [] n
     ∙ ap (λ (l : List ℕ). different same_node l + new_if (list_any (same_node n) l)) (append-nil xs)
-    ∙ ap (λ (k : ℕ). different same_node xs + k) (any_counted n xs ∙ ap (λ (k : ℕ). one_if (eqb k 0)) (sym (guests_of places n)))
+    ∙ ap (λ (k : ℕ). different same_node xs + k) (any_counted n xs ∙ ap (λ (k : ℕ). one_if (eqb k 0)) (sym (hosted_of places n)))
 
 nodes_grow : (places rest : List Place) → different same_node (nodes_of places) ≤ different same_node (nodes_of (places ++ rest))
 nodes_grow places [] = subst (λ (l : List Place). different same_node (nodes_of places) ≤ different same_node (nodes_of l)) (sym (append-nil places)) (omega arith)

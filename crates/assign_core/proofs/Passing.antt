@@ -11,9 +11,9 @@ use Rattle.lab_model.specs.Shapes.{Place, node_at}
 use Rattle.lab_model.specs.Rules.{no_place, number_of}
 use Rattle.node_maps.proofs.Assembled.{no_map}
 use Rattle.node_maps.proofs.Leasts.{least_kept}
-use Rattle.map_state.specs.Hosted.{guests_at}
+use Rattle.map_state.specs.Hosted.{hosted_at}
 use Rattle.map_state.proofs.FullLaws.{overfull}
-use Rattle.map_state.proofs.GuestLaws.{one_if, guests_more}
+use Rattle.map_state.proofs.HostedNodeLaws.{one_if, guests_more}
 use Rattle.map_anneal.specs.declared.priced.Priced.{Priced}
 use Rattle.map_anneal.specs.Sought.{Sought, mapped, price}
 use Rattle.assign_core.specs.Bests.{IsBest, is_below}
@@ -89,7 +89,7 @@ passed_over s maps o places cs passed all h =
     alone (suc k) d lt = absurd (omega (arith, lt))
 
 -- where as many are on the node of one more as may have its type there
-pub full_passed : (s : Sought) (places : List Place) (p : Place) (o : Option Priced) → p.0.0 < length s.lab.nodes → number_of (node_at s.lab p.0).types p.1 ≤ guests_at places p.0.0
+pub full_passed : (s : Sought) (places : List Place) (p : Place) (o : Option Priced) → p.0.0 < length s.lab.nodes → number_of (node_at s.lab p.0).types p.1 ≤ hosted_at places p.0.0
     → ArePassed s (places ++ p ∷ []) o
 full_passed s places p o node many = λ rest m long is.
     let first = places ++ p ∷ [] in
@@ -101,8 +101,8 @@ full_passed s places p o node many = λ rest m long is.
     let more = guests_more places p p.0.0 in
     let own : ◌≡◌ {A = ℕ} (one_if (eqb p.0.0 p.0.0)) 1 = ap one_if (eq-eqb p.0.0 p.0.0 refl) in
     let parts = sum_by-append (λ (q : Place). cond (eqb q.0.0 p.0.0) 1 0) first rest in
-    let over : number_of (node_at s.lab p.0).types p.1 < guests_at all p.0.0 = omega (arith, many, more, own, parts) in
-    let here = subst (λ (q : Place). number_of (node_at s.lab q.0).types q.1 < guests_at all q.0.0) (sym at) over in
+    let over : number_of (node_at s.lab p.0).types p.1 < hosted_at all p.0.0 = omega (arith, many, more, own, parts) in
+    let here = subst (λ (q : Place). number_of (node_at s.lab q.0).types q.1 < hosted_at all q.0.0) (sym at) over in
     let on = subst (λ (q : Place). q.0.0 < length s.lab.nodes) (sym at) node in
     let none = no_map s.lab s.free s.wiring all (λ plugs kept. overfull s.lab s.wiring all v long (omega (arith, grown, whole)) here (kept.shared (get_or all v no_place).0.0 on)) in
     absurd (cc (none, is))

@@ -8,7 +8,7 @@ use Rattle.lab_model.specs.Rules.{no_place}
 use Rattle.cost_rule.specs.declared.parts.Parts.{Parts}
 use Rattle.cost_rule.specs.Cost.{sum_below, different, same_node, soft_at}
 use Rattle.node_maps.specs.NodeMaps.{ArePlaces}
-use Rattle.map_state.specs.Hosted.{guests_at}
+use Rattle.map_state.specs.Hosted.{hosted_at}
 use Rattle.map_state.specs.declared.search.Search.{Search}
 use Rattle.map_anneal.specs.declared.priced.Priced.{Priced}
 use Rattle.map_anneal.specs.Sought.{Sought, mapped, price}
@@ -27,8 +27,8 @@ first_parts lab w places = record { uses = 0; nodes = different same_node (map (
 pub record IsPrefix (x : Search) (p : Prefix) : Type 0 where
   pub within : length p.places.items ≤ length x.mapper.wiring.now.nodes
   pub are : ArePlaces x.mapper.lab.now p.places.items
-  pub one_each : length p.guests.items ≡ length x.mapper.lab.now.nodes
-  pub guests : (n : ℕ) → n < length x.mapper.lab.now.nodes → slice_index_or p.guests.items n 0 ≡ guests_at p.places.items n
+  pub one_each : length p.hosted.items ≡ length x.mapper.lab.now.nodes
+  pub hosted : (n : ℕ) → n < length x.mapper.lab.now.nodes → slice_index_or p.hosted.items n 0 ≡ hosted_at p.places.items n
   pub parts : p.parts ≡ first_parts x.mapper.lab.now x.mapper.wiring.now p.places.items
 
 -- no map that begins with these places is cheaper than the best one

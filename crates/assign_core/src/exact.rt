@@ -108,7 +108,7 @@ fn is_free(best: &Option<Priced>) -> bool
 }
 
 /// The best map after all those that begin with these places, which the one that is chosen does too. Maps that are known to be no cheaper are passed over
-/// as soon as their first places tell. Behind a map that costs nothing no other is looked at.
+/// as soon as their first places tell. After a map that costs nothing no other is looked at.
 fn explore(
     alloc: Global,
     search: &Search,

@@ -19,7 +19,7 @@ use std::alloc::Global;
 pub(crate) struct Prefix {
     pub(crate) places: Vec<Place>,
     /// By node how many of the places are on it.
-    pub(crate) guests: Vec<u16>,
+    pub(crate) hosted: Vec<u16>,
     /// The parts of the cost by these places alone, where no trunk is used and no class asked for: each map that begins so has at least these.
     pub(crate) parts: Parts,
 }
@@ -51,10 +51,10 @@ impl Prefix {
         ensures prefix { IfOk result (IsPrefix search.now) }
         ensures none { IfOk result (λ prefix. prefix.places.items ≡ []) }
     {
-        let guests = vec![in alloc; 0u16; search.mapper.lab.nodes().len()]?;
+        let hosted = vec![in alloc; 0u16; search.mapper.lab.nodes().len()]?;
         Ok(Prefix {
             places: Vec::new(alloc),
-            guests,
+            hosted,
             parts: Parts {
                 uses: 0,
                 nodes: 0,
@@ -78,7 +78,7 @@ impl Prefix {
         let more = search
             .table
             .soft_at(mapper.lab, mapper.wiring, next, place.0);
-        let joined = one_if(self.guests[place.0.0 as usize] == 0);
+        let joined = one_if(self.hosted[place.0.0 as usize] == 0);
         Parts {
             uses: 0,
             nodes: self.parts.nodes + joined,
@@ -97,7 +97,7 @@ impl Prefix {
         ensures prefix { OnOk result (IsPrefix _search.now self.new) }
         ensures places { OnOk result (self.new.places.items ≡ self.old.places.items ++ place ∷ []) }
     {
-        self.guests[place.0.0 as usize] += 1;
+        self.hosted[place.0.0 as usize] += 1;
         self.places.push(place)?;
         self.parts = parts;
         Ok(())
@@ -115,7 +115,7 @@ impl Prefix {
         let Some(last) = self.places.pop() else {
             return;
         };
-        self.guests[last.0.0 as usize] -= 1;
+        self.hosted[last.0.0 as usize] -= 1;
         self.parts = parts;
     }
 
@@ -144,7 +144,7 @@ impl Prefix {
         let _kept = search.mapper.lab.range();
         let next = self.places.len();
         let room = search.rooms.at(next, number);
-        if self.guests[room.node.0 as usize] >= room.most {
+        if self.hosted[room.node.0 as usize] >= room.most {
             return Ok(None);
         }
         let place = *search.candidates.at(next, number);

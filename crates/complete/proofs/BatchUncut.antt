@@ -22,7 +22,7 @@ use Rattle.lab_core.proofs.Runs.{batch_first, batch_refuses, stand_in}
 use Rattle.complete.specs.Booted.{GoesWell}
 use Rattle.complete.specs.Complete.{is_cut}
 use Rattle.complete.proofs.DoneUncut.{cut_if, does_uncut}
-use Rattle.complete.proofs.GoingWell.{well_behind}
+use Rattle.complete.proofs.GoingWell.{well_after}
 use Rattle.complete.proofs.JudgedUncut.{cuts, run_turns as no_turn, run_uncut}
 
 -- the reply to one command, and that to the whole
@@ -53,21 +53,21 @@ module _ (rule : RuleNumber) (moment : ℕ) where
       (run_uncut s (is_busy (names_of opens) run.exp) (length opens) rule moment promises ends run (λ entry. has_space set entry) j judged) d
   next_uncut set s opens promises ends left own rest after well (no_memory wants) = ap (λ (x : After). cut_if x.reply) wants.after_is
 
-  -- what is told behind a reply
-  behind_calm : (told : List Reply) (reply : Reply) → list_any tells_failed told ≡ false → cuts reply ≡ false → list_any tells_failed (told ++ reply ∷ []) ≡ false
-  behind_calm told reply before calm = any_more tells_failed told reply ∙ (λ i. before i || calm_one reply calm i)
+  -- what is told after a reply
+  after_calm : (told : List Reply) (reply : Reply) → list_any tells_failed told ≡ false → cuts reply ≡ false → list_any tells_failed (told ++ reply ∷ []) ≡ false
+  after_calm told reply before calm = any_more tells_failed told reply ∙ (λ i. before i || calm_one reply calm i)
 
   module _ (base : Ground) (trace : Option (List Event)) (s : LabState) (opens : List OpenSwap) (start : Serving) (first : start.told ≡ []) where
     past_calm : (own : List Event) (at : Serving) (u : LabState) (to : List OpenSwap) → Past (runs_in_turn rule moment) base trace start s opens own at u to → (rest : List Event) → GoesWell (own ++ rest) → list_any tells_failed at.told ≡ false
     past_calm own at u to none rest well = ap (list_any tells_failed) first
     past_calm own at u to (more front at' mid between past steps reply lab to' next) rest well =
         let all = subst GoesWell (append_assoc front steps rest) well in
-        behind_calm at'.told reply (past_calm front at' mid between past (steps ++ rest) all) (next_uncut _ mid between at'.promises at'.ends at'.left steps rest _ (well_behind front (steps ++ rest) all) next.done)
+        after_calm at'.told reply (past_calm front at' mid between past (steps ++ rest) all) (next_uncut _ mid between at'.promises at'.ends at'.left steps rest _ (well_after front (steps ++ rest) all) next.done)
 
     last_calm : (at : Serving) (told : Option Reply) → list_any tells_failed at.told ≡ false → cut_if told ≡ false → told_cut (last_reply (runs_in_turn rule moment) at told) ≡ false
     last_calm at None before calm = refl
     last_calm at (Some replies.Stopped) before calm = absurd (cc calm)
-    last_calm at (Some reply) before calm = behind_calm at.told reply before calm
+    last_calm at (Some reply) before calm = after_calm at.told reply before calm
 
   pub batch_uncut : (text : List ℕ) (trace : Option (List Event)) (set : Setting) (s : LabState) (opens : List OpenSwap) (own rest : List Event) (after : After) → GoesWell (own ++ rest) → Serves rule moment text trace set opens s own after → told_cut after.reply ≡ false
   batch_uncut text trace set s opens own rest after well (refused reply judged d) = ap (λ (x : After). told_cut x.reply) d.after_is ∙ batch_refuses is_cut refl (λ fault. refl) s text reply judged
@@ -79,5 +79,5 @@ module _ (rule : RuleNumber) (moment : ℕ) where
       let none_told = ap (λ (p : Serving). p.told) (batch_first s text start judged).2 in
       let before = past_calm (ground_by set) trace s opens start none_told front at mid between past (steps ++ rest) all in
       ap (λ (x : After). told_cut x.reply) after_is
-      ∙ last_calm (ground_by set) trace s opens start none_told at told before (next_uncut _ mid between at.promises at.ends at.left steps rest _ (well_behind front (steps ++ rest) all) next.done)
+      ∙ last_calm (ground_by set) trace s opens start none_told at told before (next_uncut _ mid between at.promises at.ends at.left steps rest _ (well_after front (steps ++ rest) all) next.done)
   batch_uncut text trace set s opens own rest after well (listed start judged (wanting at lab to past after_is)) = ap (λ (x : After). told_cut x.reply) after_is

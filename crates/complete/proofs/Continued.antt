@@ -40,7 +40,7 @@ use Rattle.swap_turns.proofs.Only.{only_sent}
 use Rattle.script_text.specs.declared.command.Command.{Command}
 use Rattle.script_text.specs.declared.reply.Reply.{Reply}
 use Rattle.script_text.specs.declared.reply.Reply.TheVariants.{Trouble as TroubleReply}
-use Rattle.lab_core.specs.Breaks.{StartsBehind}
+use Rattle.lab_core.specs.Breaks.{StartsAfter}
 use Rattle.lab_tasks.specs.Tasks.{Task, Tell, Append, Swap, BeginOnly, Turn, Finish, Recover}
 use Rattle.lab_core.specs.LabSteps.{AppendEnds, Appends, BeginSteps, Begins, Does, EndsSwap, IfSpace, IsAnswered, IsDoneBy, JudgedBeside, Replies, Swaps, Turns, begun_at, broken, does, end_reply, end_session, has_space, is_told, no_memory, turn_reply, turned_on, whole}
 use Rattle.lab_core.specs.Recovery.{Recovers, broken_off, settled}
@@ -151,7 +151,7 @@ pub told_open : (reply : Option Reply) (opens to : List OpenSwap) (outcome : Out
     → GoesOn outcome × (behind ≡ []) × (to ≡ opens) × (after.reply ≡ reply)
 told_open reply opens to outcome behind after (is_told starts told session) open_now = by outcome starts (sym session ∙ open_now)
   where
-    by : (outcome : Outcome) → StartsBehind outcome behind → end_session opens outcome ≡ Open to → GoesOn outcome × (behind ≡ []) × (to ≡ opens) × (after.reply ≡ reply)
+    by : (outcome : Outcome) → StartsAfter outcome behind → end_session opens outcome ≡ Open to → GoesOn outcome × (behind ≡ []) × (to ≡ opens) × (after.reply ≡ reply)
     by More starts is = (tt, starts, same_opens opens to is, told)
     by (TurnsBack why) starts is = (tt, starts, same_opens opens to is, told)
     by (Ended leg) starts is = (tt, starts, same_opens opens to is, told)

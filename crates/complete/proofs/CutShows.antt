@@ -34,15 +34,15 @@ when_false : {A : Type 0} (b : Bool) (x y : A) → b ≡ false → cond b x y �
 when_false true x y is = absurd (cc is)
 when_false false x y is = refl
 
--- behind the first step
-pub up_behind : (event : Event) (events : List Event) → all_come_up (event ∷ events) ≡ true → all_come_up events ≡ true
-up_behind (Did op applied answer) events is = and_rest (boots_up op answer events) (all_come_up events) is
-up_behind (Wrote side at bytes) events is = is
-up_behind (Synced side) events is = is
-up_behind (CutTo side size) events is = is
-up_behind (Missed side) events is = is
-up_behind (Unread device) events is = is
-up_behind (Restarted a b) events is = is
+-- after the first step
+pub up_after : (event : Event) (events : List Event) → all_come_up (event ∷ events) ≡ true → all_come_up events ≡ true
+up_after (Did op applied answer) events is = and_rest (boots_up op answer events) (all_come_up events) is
+up_after (Wrote side at bytes) events is = is
+up_after (Synced side) events is = is
+up_after (CutTo side size) events is = is
+up_after (Missed side) events is = is
+up_after (Unread device) events is = is
+up_after (Restarted a b) events is = is
 
 -- THE COMMANDS OF ONE among the steps: a test of commands, which is the same for all commands to one node
 module _ (is_own : DeviceOp → Bool) (alike : (op : DeviceOp) (node : List ℕ) → op_node op ≡ Some node → is_own op ≡ is_own (ops.Boot node)) where
@@ -203,7 +203,7 @@ module _ (is_own : DeviceOp → Bool) (alike : (op : DeviceOp) (node : List ℕ)
     no_cut (Missed side ∷ events) left sent is goes fine up calm = no_cut events left sent is goes (quiet left.watch left.todo (Missed side) (events ++ more) (λ node from polls. refl) fine) up calm
     no_cut (Unread device ∷ events) left sent is goes fine up calm = no_cut events left sent is goes (quiet left.watch left.todo (Unread device) (events ++ more) (λ node from polls. refl) fine) up calm
     no_cut (Restarted a b ∷ events) left sent is goes fine up calm = no_cut events left sent is goes (quiet left.watch left.todo (Restarted a b) (events ++ more) (λ node from polls. refl) fine) up calm
-    no_cut (Did o x y ∷ events) left sent is goes fine up calm = by (is_own o) (λ l s same g f. no_cut events l s same g f (up_behind (Did o x y) (events ++ more) up) (or_right (is_failure (Did o x y)) (has_failure (events ++ more)) calm)) refl is
+    no_cut (Did o x y ∷ events) left sent is goes fine up calm = by (is_own o) (λ l s same g f. no_cut events l s same g f (up_after (Did o x y) (events ++ more) up) (or_right (is_failure (Did o x y)) (has_failure (events ++ more)) calm)) refl is
       where
         own : (sent : Sent) → Again events → is_own o ≡ true → Did o x y ∷ own_by events ≡ acknowledged sent ++ Did op applied answer ∷ [] → Goes sent (Going left) (Going mid) → ⊥
         own [] again its same goes =

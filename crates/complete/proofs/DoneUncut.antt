@@ -22,7 +22,7 @@ use Rattle.swap_turns.specs.Whole.{SwapSteps, begun, unwritten, stopped as halte
 use Rattle.swap_turns.proofs.Showing.{swap_shows}
 use Rattle.script_text.specs.declared.command.Command.{Command}
 use Rattle.script_text.specs.declared.reply.Reply.{Reply}
-use Rattle.lab_core.specs.Breaks.{Breaks, StartsBehind, stopped, failed, unanswered}
+use Rattle.lab_core.specs.Breaks.{Breaks, StartsAfter, stopped, failed, unanswered}
 use Rattle.lab_tasks.specs.Tasks.{Task, Tell, Append, Swap, BeginOnly, Turn, Finish, Recover}
 use Rattle.lab_core.specs.LabSteps.{AppendEnds, Appends, BeginSteps, Begins, Does, IfSpace, IsAnswered, IsDoneBy, IsOneOf, JudgedBeside, Swaps, broken, does, done_reply, end_reply, has_space, is_told, no_memory, turn_reply, whole}
 use Rattle.lab_core.specs.Recovery.{Recovers, broken_off, settled}
@@ -31,7 +31,7 @@ use Rattle.lab_core.specs.Tells.{IsTurnOf}
 use Rattle.lab_tasks.specs.OpenNames.{is_among, name_of}
 use Rattle.complete.specs.Booted.{GoesWell}
 use Rattle.complete.proofs.JudgedUncut.{cuts, IsJudgedUncut, judged_uncut}
-use Rattle.complete.proofs.GoingWell.{EndsWell, IsSafe, any_front, finish_well, new_safe, settles_well, turn_well, well_behind}
+use Rattle.complete.proofs.GoingWell.{EndsWell, IsSafe, any_front, finish_well, new_safe, settles_well, turn_well, well_after}
 
 -- an open swap went forth alone, and isn't cut by these steps, which go well, as do some before them
 pub record IsSafeFor (steps : List Event) (s : LabState) (o : OpenSwap) : Type 0 where
@@ -48,9 +48,9 @@ abbrev pub cut_if : Option Reply → Bool
 cut_if None = false
 cut_if (Some reply) = cuts reply
 
-or_behind : (f : Event → Bool) (front behind : List Event) → list_any f behind ≡ true → list_any f (front ++ behind) ≡ true
-or_behind f [] behind is = is
-or_behind f (x ∷ front) behind is = by (f x) (or_behind f front behind is)
+or_after : (f : Event → Bool) (front behind : List Event) → list_any f behind ≡ true → list_any f (front ++ behind) ≡ true
+or_after f [] behind is = is
+or_after f (x ∷ front) behind is = by (f x) (or_after f front behind is)
   where
     by : (b : Bool) → list_any f (front ++ behind) ≡ true → b || list_any f (front ++ behind) ≡ true
     by true later = refl
@@ -59,14 +59,14 @@ or_behind f (x ∷ front) behind is = by (f x) (or_behind f front behind is)
 -- nothing breaks off among steps that go well
 pub no_break : (events more : List Event) (reply : Option Reply) → Breaks events reply → GoesWell (events ++ more) → cut_if reply ≡ false
 no_break events more reply (stopped ends is) well =
-    absurd (cc (sym (any_front is_restart events more well.no_restart) ∙ (λ i. has_restart (ends.is i)) ∙ or_behind is_restart ends.front (Restarted ends.a ends.b ∷ []) refl))
+    absurd (cc (sym (any_front is_restart events more well.no_restart) ∙ (λ i. has_restart (ends.is i)) ∙ or_after is_restart ends.front (Restarted ends.a ends.b ∷ []) refl))
 no_break events more reply (failed once missed is) well = absurd (cc (sym (any_front is_miss events more well.no_miss) ∙ missed))
 no_break events more reply (unanswered is) well = ap cut_if is
 
 -- no plant that stopped was started among them
-no_start : (steps behind own more : List Event) → own ≡ steps ++ behind → StartsBehind Halted behind → GoesWell (own ++ more) → ⊥
+no_start : (steps behind own more : List Event) → own ≡ steps ++ behind → StartsAfter Halted behind → GoesWell (own ++ more) → ⊥
 no_start steps behind own more is starts well =
-    cc (sym (any_front is_restart own more well.no_restart) ∙ ap has_restart is ∙ or_behind is_restart steps behind (ap has_restart starts.2))
+    cc (sym (any_front is_restart own more well.no_restart) ∙ ap has_restart is ∙ or_after is_restart steps behind (ap has_restart starts.2))
 
 done_uncut : (exp : List ℕ) (m : Option Mapped) → cuts (done_reply exp m) ≡ false
 done_uncut exp None = refl
@@ -79,12 +79,12 @@ end_uncut p leg is = subst (λ l. cut_if (end_reply p (Ended l)) ≡ false) (sym
 module _ (own more : List Event) (well : GoesWell (own ++ more)) where
   told_end : (p : SwapOf) (o : RunningSwap) (outcome : Outcome) (opens : List OpenSwap) (steps behind : List Event) (after : After) → o.leg ≡ Forth → own ≡ steps ++ behind → EndsWell o outcome → IsAnswered (end_reply p outcome) opens outcome behind after → cut_if after.reply ≡ false
   told_end p o outcome opens steps behind after forth own_is (inl is) (is_told starts reply session) = ap cut_if reply ∙ ap (λ x. cut_if (end_reply p x)) is ∙ end_uncut p o.leg forth
-  told_end p o outcome opens steps behind after forth own_is (inr is) (is_told starts reply session) = absurd (no_start steps behind own more own_is (subst (λ x. StartsBehind x behind) is starts) well)
+  told_end p o outcome opens steps behind after forth own_is (inr is) (is_told starts reply session) = absurd (no_start steps behind own more own_is (subst (λ x. StartsAfter x behind) is starts) well)
 
   told_turn : (p : SwapOf) (o : RunningSwap) (outcome : Outcome) (opens : List OpenSwap) (steps behind : List Event) (after : After) → o.leg ≡ Forth → own ≡ steps ++ behind → (outcome ≡ More) ⊎ EndsWell o outcome → IsAnswered (turn_reply p outcome) opens outcome behind after → cut_if after.reply ≡ false
   told_turn p o outcome opens steps behind after forth own_is (inl is) (is_told starts reply session) = ap cut_if reply ∙ ap (λ x. cut_if (turn_reply p x)) is
   told_turn p o outcome opens steps behind after forth own_is (inr (inl is)) (is_told starts reply session) = ap cut_if reply ∙ ap (λ x. cut_if (turn_reply p x)) is ∙ end_uncut p o.leg forth
-  told_turn p o outcome opens steps behind after forth own_is (inr (inr is)) (is_told starts reply session) = absurd (no_start steps behind own more own_is (subst (λ x. StartsBehind x behind) is starts) well)
+  told_turn p o outcome opens steps behind after forth own_is (inr (inr is)) (is_told starts reply session) = absurd (no_start steps behind own more own_is (subst (λ x. StartsAfter x behind) is starts) well)
 
   front_well : (steps behind : List Event) → own ≡ steps ++ behind → GoesWell (steps ++ (behind ++ more))
   front_well steps behind is = subst GoesWell (ap (λ l. l ++ more) is ∙ append_assoc steps behind more) well
@@ -93,7 +93,7 @@ module _ (own more : List Event) (well : GoesWell (own ++ more)) where
   swap_ends : (p : SwapOf) (s : LabState) (begin : Record) (move : Move) (steps behind : List Event) (after : LabState) (outcome : Outcome) → own ≡ steps ++ behind → SwapSteps p s begin move steps after outcome → EndsWell (opened_swap p) outcome
   swap_ends p s begin move steps behind after outcome own_is (begun b) =
       let all = subst GoesWell (ap (λ l. l ++ (behind ++ more)) b.steps_are ∙ append_assoc b.front b.behind (behind ++ more)) (front_well steps behind own_is) in
-      finish_well [] b.state (opened_swap p) (new_safe [] b.state (opened_swap p) refl) b.behind (behind ++ more) outcome after b.finishes (well_behind b.front (b.behind ++ (behind ++ more)) all)
+      finish_well [] b.state (opened_swap p) (new_safe [] b.state (opened_swap p) refl) b.behind (behind ++ more) outcome after b.finishes (well_after b.front (b.behind ++ (behind ++ more)) all)
   swap_ends p s begin move steps behind after outcome own_is (unwritten is told) =
       absurd (cc (sym (any_front is_miss steps (behind ++ more) (front_well steps behind own_is).no_miss) ∙ (swap_shows p s begin move steps after outcome (unwritten is told)).miss_is ∙ ap is_unwritten told))
   swap_ends p s begin move steps behind after outcome own_is (halted is told) = inr told

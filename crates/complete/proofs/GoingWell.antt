@@ -22,7 +22,7 @@ use Rattle.swap_turns.specs.Swaps.{Swap}
 use Rattle.swap_turns.specs.Turning.{Outcome, More, TurnsBack, Ended, Stuck, Unwritten, Stopped, TurnSteps, plan_in}
 use Rattle.swap_turns.proofs.Showing.{finish_shows, turn_shows}
 use Rattle.complete.specs.Booted.{GoesWell, all_come_up, is_failure}
-use Rattle.complete.proofs.CutShows.{no_cut, own_by, up_behind}
+use Rattle.complete.proofs.CutShows.{no_cut, own_by, up_after}
 
 or_last : (x y : Bool) → x || y ≡ false → y ≡ false
 or_last true y is = absurd (cc is)
@@ -33,9 +33,9 @@ or_first true y is = absurd (cc is)
 or_first false y is = refl
 
 -- PARTS of steps that go well
-any_behind : (f : Event → Bool) (before behind : List Event) → list_any f (before ++ behind) ≡ false → list_any f behind ≡ false
-any_behind f [] behind is = is
-any_behind f (x ∷ before) behind is = any_behind f before behind (or_last (f x) _ is)
+any_after : (f : Event → Bool) (before behind : List Event) → list_any f (before ++ behind) ≡ false → list_any f behind ≡ false
+any_after f [] behind is = is
+any_after f (x ∷ before) behind is = any_after f before behind (or_last (f x) _ is)
 
 pub any_front : (f : Event → Bool) (before behind : List Event) → list_any f (before ++ behind) ≡ false → list_any f before ≡ false
 any_front f [] behind is = refl
@@ -43,13 +43,13 @@ any_front f (x ∷ before) behind is = ap (λ b. b || list_any f before) (or_fir
 
 up_last : (before behind : List Event) → all_come_up (before ++ behind) ≡ true → all_come_up behind ≡ true
 up_last [] behind is = is
-up_last (x ∷ before) behind is = up_last before behind (up_behind x (before ++ behind) is)
+up_last (x ∷ before) behind is = up_last before behind (up_after x (before ++ behind) is)
 
-pub well_behind : (before behind : List Event) → GoesWell (before ++ behind) → GoesWell behind
-well_behind before behind well = record {
-  no_miss = any_behind is_miss before behind well.no_miss;
-  no_restart = any_behind is_restart before behind well.no_restart;
-  no_failure = any_behind is_failure before behind well.no_failure;
+pub well_after : (before behind : List Event) → GoesWell (before ++ behind) → GoesWell behind
+well_after before behind well = record {
+  no_miss = any_after is_miss before behind well.no_miss;
+  no_restart = any_after is_restart before behind well.no_restart;
+  no_failure = any_after is_failure before behind well.no_failure;
   up = up_last before behind well.up;
 }
 
@@ -68,13 +68,13 @@ uncut plan trouble course more cut well =
     (subst (λ l. own_by (λ o. true) alike_all l ≡ acknowledged cut.sent.sent ++ Did cut.op cut.applied cut.answer ∷ []) (sym are) (all_own cut.sent.sent cut.op cut.applied cut.answer))
     cut.sent.goes tt well.up well.no_failure
 
--- TURNS OF A SWAP whose course can't be cut, whatever steps that go well stand behind what it has sent so far
+-- TURNS OF A SWAP whose course can't be cut, whatever steps that go well stand after what it has sent so far
 abbrev pub IsSafe : List Event → LabState → OpenSwap → Type 0
 IsSafe past s o = (trouble : Trouble) (steps more : List Event) → IsCut (plan_in s o) trouble (o.course ++ steps) → GoesWell (past ++ (steps ++ more)) → ⊥
 
 -- one that was sent nothing of is
 pub new_safe : (past : List Event) (s : LabState) (o : OpenSwap) → o.course ≡ [] → IsSafe past s o
-new_safe past s o none trouble steps more cut well = uncut (plan_in s o) trouble steps more (subst (λ l. IsCut (plan_in s o) trouble (l ++ steps)) none cut) (well_behind past (steps ++ more) well)
+new_safe past s o none trouble steps more cut well = uncut (plan_in s o) trouble steps more (subst (λ l. IsCut (plan_in s o) trouble (l ++ steps)) none cut) (well_after past (steps ++ more) well)
 
 written : (steps more : List Event) (miss : Bool) → has_miss steps ≡ miss → GoesWell (steps ++ more) → miss ≡ false
 written steps more miss is well = sym is ∙ any_front is_miss steps more well.no_miss
@@ -88,7 +88,7 @@ module _ (past : List Event) (s : LabState) (o : OpenSwap) (safe : IsSafe past s
   turn_well steps more (TurnsBack why) after turn well = absurd (safe why steps more turn.1 well)
   turn_well steps more (Ended leg) after turn well = inr (inl (ap (λ l. Ended l) (sym turn.1)))
   turn_well steps more (Stuck trouble) after turn well = absurd (safe trouble steps more turn.1 well)
-  turn_well steps more Unwritten after turn well = absurd (cc (written steps more true (turn_shows s o steps Unwritten after turn).miss_is (well_behind past (steps ++ more) well)))
+  turn_well steps more Unwritten after turn well = absurd (cc (written steps more true (turn_shows s o steps Unwritten after turn).miss_is (well_after past (steps ++ more) well)))
   turn_well steps more Stopped after turn well = inr (inr refl)
 
   -- further on along its course it can't be cut either
@@ -110,7 +110,7 @@ module _ (past : List Event) (s : LabState) (o : OpenSwap) (safe : IsSafe past s
       by (along is) (TurnsBack why) turn over miss = absurd over
       by (along is) (Ended leg) turn over miss = inl (ap (λ l. Ended l) (sym turn.1 ∙ ap (λ (x : OpenSwap). x.leg) is))
       by (along is) (Stuck trouble) turn over miss = absurd (safe_on f.front f.at is trouble f.behind more turn.1 whole_well)
-      by (along is) Unwritten turn over miss = absurd (cc (written steps more true miss (well_behind past (steps ++ more) well)))
+      by (along is) Unwritten turn over miss = absurd (cc (written steps more true miss (well_after past (steps ++ more) well)))
       by (along is) Stopped turn over miss = inr refl
 
 -- SETTLINGS
@@ -129,4 +129,4 @@ settles_well s (p ∷ ps) (outcome ∷ outcomes) steps more after is well =
     let all = subst GoesWell (ap (λ l. l ++ more) is.5 ∙ append_assoc is.0 is.1 more) well in
     stuck_first outcome outcomes
     (settled_one p outcome is.3.settled (finish_well [] s (settling p) (new_safe [] s (settling p) refl) is.0 (is.1 ++ more) outcome is.2 is.3.is all))
-    (settles_well is.2 ps outcomes is.1 more after is.4 (well_behind is.0 (is.1 ++ more) all))
+    (settles_well is.2 ps outcomes is.1 more after is.4 (well_after is.0 (is.1 ++ more) all))

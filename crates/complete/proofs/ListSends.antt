@@ -32,7 +32,7 @@ use Rattle.lab_words.specs.Words.{Choices}
 use Rattle.lab_top.proofs.RunLaws.{done}
 use Rattle.complete.specs.Bounds.{commands_in, most_from}
 use Rattle.complete.specs.Sends.{SwapsWithin, calm, is_list, none, swaps}
-use Rattle.complete.proofs.RunSends.{nothing_behind, of_these}
+use Rattle.complete.proofs.RunSends.{nothing_after, of_these}
 use Rattle.complete.proofs.Sending.{commands_both}
 use Rattle.complete.proofs.StepSends.{next_within}
 use Rattle.lab_core.specs.Moments.{with_more}
@@ -108,7 +108,7 @@ module _ (terms : Terms) (choices : Option Choices) (old new : Outside) (status 
   pub list_sends : is_some b.piece.reply ≡ true → is_list b.piece.command ≡ true → ListWithin (is_about b.piece.command) b.piece.own
   list_sends answered listed_it =
       let l = (done terms choices old new status before after b t ran told sound).leads in
-      let none_behind = nothing_behind terms choices old new status before after b t ran told sound b.piece.reply answered b.piece.to l.steps.session l.steps.told l.steps.behind l.steps.is_told in
+      let none_behind = nothing_after terms choices old new status before after b t ran told sound b.piece.reply answered b.piece.to l.steps.session l.steps.told l.steps.behind l.steps.is_told in
       let own_is : b.piece.own ++ l.steps.behind ≡ b.piece.own = ap (λ m. b.piece.own ++ m) none_behind ∙ append-nil b.piece.own in
       subst (λ o. ListWithin (is_about b.piece.command) o) own_is
       (step_list terms (Some (trace_after t.trace before)) _ l.first b.piece.opening (b.piece.own ++ l.steps.behind) _ b.piece.command listed_it b.piece.from l.steps.step)

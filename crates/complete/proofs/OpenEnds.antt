@@ -26,7 +26,7 @@ use Rattle.lab_top.specs.declared.status.Status.{Status}
 use Rattle.lab_top.specs.Pieces.{AreHandedOn, AreOn, ArePieces, Begun, IsPiece, Leads, is_closed, may_shut, session_after, trace_after}
 use Rattle.lab_top.specs.Ran.{Outside, Ran}
 use Rattle.lab_top.proofs.RunLaws.{pieces_of}
-use Rattle.lab_top.proofs.TurnLaws.{all_few, few_open, handed_behind, pieces_behind, sessions_join}
+use Rattle.lab_top.proofs.TurnLaws.{all_few, few_open, handed_after, pieces_after, sessions_join}
 use Rattle.lab_words.specs.Words.{Choices}
 use Rattle.complete.specs.Bounds.{commands_in, most_from}
 use Rattle.complete.specs.Ends.{FailsOrShuts, MetTrouble, turns_of}
@@ -132,10 +132,10 @@ module _ (terms : Terms) (choices : Option Choices) (old new : Outside) (status 
     session = session_after Closed before
 
     pieces : ArePieces terms past rest
-    pieces = pieces_behind terms t.trace before rest (pieces_of terms choices old new status (before ++ rest) t r told)
+    pieces = pieces_after terms t.trace before rest (pieces_of terms choices old new status (before ++ rest) t r told)
 
     handed : AreHandedOn session rest
-    handed = handed_behind Closed before rest r.sessions
+    handed = handed_after Closed before rest r.sessions
 
     differ : AllDiffer (busy_of session)
     differ = (few_open terms choices old new status before rest r t told).1
@@ -176,7 +176,7 @@ module _ (terms : Terms) (choices : Option Choices) (old new : Outside) (status 
       on_way = goes_forth terms stand_once exp before middle (c ∷ after) (trace_after t.trace before) start (pieces before rest t r told) (handed before rest t r told) (differ before rest t r told) (going before rest t r told) o is_open forth on
 
       handed_c : AreHandedOn (session_after start middle) (c ∷ after)
-      handed_c = handed_behind start middle (c ∷ after) (handed before rest t r told)
+      handed_c = handed_after start middle (c ∷ after) (handed before rest t r told)
 
       differ_c : AllDiffer (busy_of c.piece.from)
       differ_c =
@@ -192,7 +192,7 @@ module _ (terms : Terms) (choices : Option Choices) (old new : Outside) (status 
       by (inr met) = inr (inl met)
       by (inl leg) =
           ⊎_elim (λ is. inl (is ∙ ap (λ (p : SwapOf). Some (done_reply exp p.new)) on_way.same)) (λ fails. inr (inr fails))
-          (ends_told terms stand_once (before ++ middle) at_c c (pieces_behind terms (trace_after t.trace before) middle (c ∷ after) (pieces before rest t r told)).0 differ_c going_c exp on_way.swap
+          (ends_told terms stand_once (before ++ middle) at_c c (pieces_after terms (trace_after t.trace before) middle (c ∷ after) (pieces before rest t r told)).0 differ_c going_c exp on_way.swap
           (ap (λ (x : Session). open_at exp (opens_of x)) handed_c.0 ∙ on_way.is_open) leg gone)
 
   pub solution_ends : (before middle after : List Begun) (b c : Begun) (t : Told) (exp text : List ℕ) (lines : ℕ) → Ran terms choices old new status (before ++ b ∷ (middle ++ c ∷ after)) → old.plant.told ≡ Some t

@@ -53,10 +53,10 @@ due_move busy s sane p has =
 abbrev pub AreNamedApart : List SwapOf → Type 0
 AreNamedApart ps = Apart (λ (p q : SwapOf). p.name ≢ q.name) ps
 
-named_behind : (busy : List (List ℕ)) (es : List Experiment) (e : Experiment) (ps : List SwapOf) → ((p : SwapOf) → Has ps p → p.name ≡ e.name) → ((name : List ℕ) → Has (map (λ (x : Experiment). x.name) es) name → e.name ≢ name) → AreNamedApart ps → AreNamedApart (swaps_of busy es) → AreNamedApart (ps ++ swaps_of busy es)
-named_behind busy es e [] named apart first rest = rest
-named_behind busy es e (p ∷ ps) named apart first rest =
-    (λ q has same. by q (Has-append ps (swaps_of busy es) q has) same, named_behind busy es e ps (λ x there. named x (inr there)) apart first.1 rest)
+named_after : (busy : List (List ℕ)) (es : List Experiment) (e : Experiment) (ps : List SwapOf) → ((p : SwapOf) → Has ps p → p.name ≡ e.name) → ((name : List ℕ) → Has (map (λ (x : Experiment). x.name) es) name → e.name ≢ name) → AreNamedApart ps → AreNamedApart (swaps_of busy es) → AreNamedApart (ps ++ swaps_of busy es)
+named_after busy es e [] named apart first rest = rest
+named_after busy es e (p ∷ ps) named apart first rest =
+    (λ q has same. by q (Has-append ps (swaps_of busy es) q has) same, named_after busy es e ps (λ x there. named x (inr there)) apart first.1 rest)
   where
     by : (q : SwapOf) → Has ps q ⊎ Has (swaps_of busy es) q → p.name ≢ q.name
     by q (inl there) = first.0 q there
@@ -71,7 +71,7 @@ one_listed busy e (Some p) = ((λ q none. absurd none), tt)
 pub due_apart : (busy : List (List ℕ)) (es : List Experiment) → AllDiffer (map (λ (x : Experiment). x.name) es) → AreNamedApart (swaps_of busy es)
 due_apart busy [] differ = tt
 due_apart busy (e ∷ es) differ =
-    named_behind busy es e (listed (due busy e)) (λ p has. (due_if (is_busy busy e.name) e.name e.phase p has).0) differ.0 (one_listed busy e (due busy e)) (due_apart busy es differ.1)
+    named_after busy es e (listed (due busy e)) (λ p has. (due_if (is_busy busy e.name) e.name e.phase p has).0) differ.0 (one_listed busy e (due busy e)) (due_apart busy es differ.1)
 
 -- THE LAST RECORD of a settling leaves a sane lab
 pub last_says : (u : LabState) (b : Bool) (name : List ℕ) → Says the_texts u (last_by b name) (last_move_by b name)

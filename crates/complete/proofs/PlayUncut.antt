@@ -11,14 +11,14 @@ use Rattle.recovery.specs.Due.{is_busy}
 use Rattle.lab_core.specs.Commands.{Plays, ground_by}
 use Rattle.lab_core.specs.LabSteps.{IsDoneBy, does, no_memory}
 use Rattle.lab_core.specs.Lists.{Ground, Past, broken, last_reply, listed, more, no_memory as list_no_memory, none, over, refused, wanting}
-use Rattle.lab_core.specs.PlayList.{JudgedNext, behind_event, events_in_turn}
+use Rattle.lab_core.specs.PlayList.{JudgedNext, after_event, events_in_turn}
 use Rattle.lab_tasks.specs.Playing.{Playing}
 use Rattle.lab_core.specs.Sessions.{OpenSwap, Setting, After, name_in, names_of}
 use Rattle.lab_core.proofs.Events.{plays_first, refuse_so, stand_in}
 use Rattle.complete.specs.Booted.{GoesWell}
 use Rattle.complete.specs.Complete.{begins_with}
 use Rattle.complete.proofs.DoneUncut.{cut_if, does_uncut}
-use Rattle.complete.proofs.GoingWell.{well_behind}
+use Rattle.complete.proofs.GoingWell.{well_after}
 use Rattle.complete.proofs.JudgedUncut.{cuts, event_turns as no_turn, event_uncut, idle_uncut}
 
 -- THE TEXT of a reply that tells of no cut course
@@ -41,22 +41,22 @@ module _ (exp : List ℕ) where
       does_uncut own rest well set s opens after (stand_in exp) (λ o has turns. absurd (no_turn (name_in o) exp turns)) j (event_uncut s (is_busy (names_of opens) exp) (length opens) exp text event j judged) d
   next_uncut set s opens text left own rest after well (no_memory wants) = ap (λ (x : After). cut_if x.reply) wants.after_is
 
-  -- the place behind a reply
-  behind_calm : (at : Playing) (reply : Reply) → cut_if at.ended ≡ false → cuts reply ≡ false → cut_if (behind_event exp at reply).ended ≡ false
-  behind_calm at (replies.In name) before calm = before
-  behind_calm at reply before calm = calm
+  -- the place after a reply
+  after_calm : (at : Playing) (reply : Reply) → cut_if at.ended ≡ false → cuts reply ≡ false → cut_if (after_event exp at reply).ended ≡ false
+  after_calm at (replies.In name) before calm = before
+  after_calm at reply before calm = calm
 
   module _ (base : Ground) (trace : Option (List Event)) (s : LabState) (opens : List OpenSwap) (start : Playing) (first : start.ended ≡ None) where
     past_calm : (own : List Event) (at : Playing) (u : LabState) (to : List OpenSwap) → Past (events_in_turn exp) base trace start s opens own at u to → (rest : List Event) → GoesWell (own ++ rest) → cut_if at.ended ≡ false
     past_calm own at u to none rest well = ap cut_if first
     past_calm own at u to (more front at' mid between past steps reply lab to' next) rest well =
         let all = subst GoesWell (append_assoc front steps rest) well in
-        behind_calm at' reply (past_calm front at' mid between past (steps ++ rest) all) (next_uncut _ mid between at'.text at'.left steps rest _ (well_behind front (steps ++ rest) all) next.done)
+        after_calm at' reply (past_calm front at' mid between past (steps ++ rest) all) (next_uncut _ mid between at'.text at'.left steps rest _ (well_after front (steps ++ rest) all) next.done)
 
     last_calm : (at : Playing) (told : Option Reply) → cut_if at.ended ≡ false → cut_if told ≡ false → cut_if (last_reply (events_in_turn exp) at told) ≡ false
     last_calm at None before calm = refl
     last_calm at (Some replies.Stopped) before calm = absurd (cc calm)
-    last_calm at (Some reply) before calm = calm_last (behind_event exp at reply).ended (behind_calm at reply before calm)
+    last_calm at (Some reply) before calm = calm_last (after_event exp at reply).ended (after_calm at reply before calm)
 
   pub plays_uncut : (from until : ℕ) (text : List ℕ) (trace : Option (List Event)) (set : Setting) (s : LabState) (opens : List OpenSwap) (own rest : List Event) (after : After) → GoesWell (own ++ rest) → Plays exp from until text trace set opens s own after → cut_if after.reply ≡ false
   plays_uncut from until text trace set s opens own rest after well (refused reply judged d) =
@@ -68,5 +68,5 @@ module _ (exp : List ℕ) where
       let all = subst GoesWell (ap (λ l. l ++ rest) own_is ∙ append_assoc front steps rest) well in
       let before = past_calm (ground_by set) trace s opens start (plays_first s opens exp from until text start judged) front at mid between past (steps ++ rest) all in
       ap (λ (x : After). cut_if x.reply) after_is
-      ∙ last_calm (ground_by set) trace s opens start (plays_first s opens exp from until text start judged) at told before (next_uncut _ mid between at.text at.left steps rest _ (well_behind front (steps ++ rest) all) next.done)
+      ∙ last_calm (ground_by set) trace s opens start (plays_first s opens exp from until text start judged) at told before (next_uncut _ mid between at.text at.left steps rest _ (well_after front (steps ++ rest) all) next.done)
   plays_uncut from until text trace set s opens own rest after well (listed start judged (wanting at lab to past after_is)) = ap (λ (x : After). cut_if x.reply) after_is

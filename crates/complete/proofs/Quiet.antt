@@ -1,4 +1,4 @@
--- One command among whatever happened before it and behind it: where nothing disturbs it, it is whole.
+-- One command among whatever happened before it and after it: where nothing disturbs it, it is whole.
 use Rattle.std.specs.Prelude.{◌==◌, not, is_some}
 use Rattle.std.proofs.Common.{◌≡◌, ◌⊎◌, ⊎_elim, inl, inr, ℕ, eqb-true, Bool, true, false, List, [], ◌∷◌, ◌++◌, append_assoc, Option, Some, None, refl, sym, ◌∙◌, ap, subst}
 use Rattle.std.proofs.lemmas.List.{append-nil}
@@ -24,7 +24,7 @@ use Rattle.lab_top.proofs.RunLaws.{done, opened_rests, recovered_rests, swapped_
 use Rattle.complete.specs.Booted.{GoesWell}
 use Rattle.complete.specs.Complete.{IsUncut, is_cut}
 use Rattle.complete.specs.Quiet.{IsUndisturbed, LacksRoom}
-use Rattle.complete.proofs.GoingWell.{IsSafe, settles_well, uncut, well_behind}
+use Rattle.complete.proofs.GoingWell.{IsSafe, settles_well, uncut, well_after}
 use Rattle.complete.proofs.RunCourses.{at_open}
 use Rattle.complete.proofs.Runs.{piece_uncut}
 use Rattle.complete.proofs.WholeRuns.{course_of}
@@ -69,18 +69,18 @@ module _ (terms : Terms) (choices : Option Choices) (old new : Outside) (status 
         safe = λ moves. own_safe s o.running;
       })
 
-  -- BEHIND AN OPENING in which nothing goes wrong none moves
+  -- AFTER AN OPENING in which nothing goes wrong none moves
   pub opening_rests : drill_of b.piece.command ≡ None → b.piece.from ≡ Closed → (is_some b.piece.reply ≡ true) ⊎ (b.piece.own ≡ [] → ⊥) → GoesWell b.piece.opening → AllRestBut [] (trace_after t.trace before ++ b.piece.opening)
   opening_rests no_drill closed went_on well =
       let r = opened_rests terms choices old new status before after b t ran told sound (record { no_drill = no_drill; closed = closed; no_miss = well.no_miss; no_restart = well.no_restart; went_on = went_on }) in
       let opens = r.2.opens in
-      r.3 (settles_well r.0 _ opens.outcomes opens.moving opens.shifting r.1 opens.settles (well_behind opens.reading (opens.moving ++ opens.shifting) (subst GoesWell opens.is well)))
+      r.3 (settles_well r.0 _ opens.outcomes opens.moving opens.shifting r.1 opens.settles (well_after opens.reading (opens.moving ++ opens.shifting) (subst GoesWell opens.is well)))
 
   -- a command that turns no swap, by its steps alone
   alone : ((exp : List ℕ) → IsTurnOf exp b.piece.command → ⊥) → GoesWell (steps_of b.piece) → IsUncut (trace_after t.trace before) b.piece
   alone turns well = whole_one (record { steps = well; turned = λ o has is. absurd (turns (o.running.swap.name) is) })
 
-  -- BEHIND A `recover` in which nothing goes wrong none is stuck, and none moves but those with an open swap
+  -- AFTER A `recover` in which nothing goes wrong none is stuck, and none moves but those with an open swap
   pub recover_rests : (number stuck : ℕ) → b.piece.command ≡ Recover → b.piece.reply ≡ Some (replies.Recovered number stuck) → GoesWell (steps_of b.piece)
       → (stuck ≡ 0) × AllRestBut (busy_of b.piece.from) (trace_after t.trace (before ++ b ∷ []))
   recover_rests number stuck asks replied well =

@@ -63,7 +63,7 @@ on_push : (swap : Swap) (leg : Leg) (made : List Begun) (b : Begun) → AreOnLeg
 on_push swap leg [] b are is = (is, tt)
 on_push swap leg (x ∷ made) b are is = (are.0, on_push swap leg made b are.1 is)
 
--- A SWAP IS OPEN behind these commands: its course is as said, no longer than its leg and the undo, and where these and further steps go well, it goes
+-- A SWAP IS OPEN after these commands: its course is as said, no longer than its leg and the undo, and where these and further steps go well, it goes
 -- forth
 pub record IsGoing (made : List Begun) (s : LabState) (o : RunningSwap) : Type 0 where
   pub course : IsCourse made s o

@@ -42,15 +42,15 @@ module _ (terms : Terms) (choices : Option Choices) (old new : Outside) (status 
       let l = (done terms choices old new status before after b t ran told sound).leads in
       (l.first, l.before, opening_within terms (Some trace) _ l.first b.piece.opening (b.piece.own ++ l.steps.behind) _ b.piece.command b.piece.from l.steps.step)
 
-  pub nothing_behind : (reply : Option Reply) → is_some reply ≡ true → (to told_to : Session) (told_so : Option Reply) (behind : List Event) → ButForReply reply to told_so told_to behind → behind ≡ []
-  nothing_behind None answered to told_to told_so behind is = absurd (cc answered)
-  nothing_behind (Some reply) answered to told_to told_so behind is = is.2
+  pub nothing_after : (reply : Option Reply) → is_some reply ≡ true → (to told_to : Session) (told_so : Option Reply) (behind : List Event) → ButForReply reply to told_so told_to behind → behind ≡ []
+  nothing_after None answered to told_to told_so behind is = absurd (cc answered)
+  nothing_after (Some reply) answered to told_to told_so behind is = is.2
 
   pub own_sends : is_some b.piece.reply ≡ true → is_list b.piece.command ≡ false
       → (commands_in b.piece.own ≡ 0) ⊎ ((s : LabState) × FirstLab (is_early b.piece) trace s × (mid : LabState) × BeginsAt b.piece.from s b.piece.opening mid × SendsWithin mid (opens_of b.piece.from) b.piece.command b.piece.own)
   own_sends answered plain =
       let l = (done terms choices old new status before after b t ran told sound).leads in
-      let none = nothing_behind b.piece.reply answered b.piece.to l.steps.session l.steps.told l.steps.behind l.steps.is_told in
+      let none = nothing_after b.piece.reply answered b.piece.to l.steps.session l.steps.told l.steps.behind l.steps.is_told in
       let own_is : b.piece.own ++ l.steps.behind ≡ b.piece.own = ap (λ m. b.piece.own ++ m) none ∙ append-nil b.piece.own in
       let step = own_within terms (Some trace) _ l.first b.piece.opening (b.piece.own ++ l.steps.behind) _ b.piece.command plain b.piece.from l.steps.step in
       elim (subst (λ o. (commands_in o ≡ 0) ⊎ ((mid : LabState) × BeginsAt b.piece.from l.first b.piece.opening mid × SendsWithin mid (opens_of b.piece.from) b.piece.command o)) own_is step.1)

@@ -21,7 +21,7 @@ use Rattle.lab_words.specs.Words.{Choices}
 use Rattle.complete.specs.Booted.{GoesWell}
 use Rattle.complete.specs.Complete.{AllGoesWell, AreUncut, IsComplete, IsReadOut, IsUncut, IsWholeScript, OpensWell, is_cut}
 use Rattle.complete.specs.OpenCourses.{steps_in}
-use Rattle.complete.proofs.GoingWell.{settles_well, well_behind}
+use Rattle.complete.proofs.GoingWell.{settles_well, well_after}
 use Rattle.complete.proofs.BatchUncut.{told_cut}
 use Rattle.complete.proofs.DoneUncut.{AreSafe}
 use Rattle.complete.proofs.StepUncut.{lab_step_uncut}
@@ -48,7 +48,7 @@ module _ (terms : Terms) (trace : List Event) (piece : Piece) (more : List Event
       let to = done.opened has in
       let opens = to.1.opens in
       let all = subst GoesWell (append_assoc piece.opening piece.own more ∙ ap (λ l. l ++ (piece.own ++ more)) opens.is ∙ append_assoc opens.reading (opens.moving ++ opens.shifting) (piece.own ++ more)) well in
-      let moved = subst GoesWell (append_assoc opens.moving opens.shifting (piece.own ++ more)) (well_behind opens.reading ((opens.moving ++ opens.shifting) ++ (piece.own ++ more)) all) in
+      let moved = subst GoesWell (append_assoc opens.moving opens.shifting (piece.own ++ more)) (well_after opens.reading ((opens.moving ++ opens.shifting) ++ (piece.own ++ more)) all) in
       (done.leads.first, done.leads.before, to.0, to.1, settles_well done.leads.first _ opens.outcomes opens.moving (opens.shifting ++ (piece.own ++ more)) to.0 opens.settles moved)
 
   pub piece_uncut : SafeAt more trace piece → IsUncut trace piece
@@ -64,7 +64,7 @@ all_uncut terms trace [] are sound well safe = tt
 all_uncut terms trace (b ∷ made) are sound well safe =
     let done = are.0.done sound in (
       piece_uncut terms trace b.piece (steps_in made) well done safe.0,
-      all_uncut terms (trace ++ steps_of b.piece) made are.1 done.sound (well_behind (steps_of b.piece) (steps_in made) well) safe.1,
+      all_uncut terms (trace ++ steps_of b.piece) made are.1 done.sound (well_after (steps_of b.piece) (steps_in made) well) safe.1,
     )
 
 -- A SCRIPT ENDS IN ONE WAY

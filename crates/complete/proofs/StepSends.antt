@@ -21,7 +21,7 @@ use Rattle.lab_judge.specs.Judge.{is_unjudged}
 use Rattle.lab_tasks.specs.OpenNames.{is_among, name_of}
 use Rattle.lab_judge.proofs.Fits.{IsFit, fits}
 use Rattle.lab_core.specs.Auditing.{Audits, no_lab, told as all_told, unread, no_memory as wants_in_audit}
-use Rattle.lab_core.specs.Breaks.{StartsBehind}
+use Rattle.lab_core.specs.Breaks.{StartsAfter}
 use Rattle.lab_core.specs.Commands.{DoesCommand, LabStep}
 use Rattle.lab_core.specs.LabSteps.{Appends, Begins, BeginSteps, Behind, Does, DoesBy, Drills, EndsSwap, IfSpace, IsAnswered, IsDoneBy, IsOneOf, JudgedBeside, Replies, StepOf, Swaps, Turns, does, has_space, is_planned, is_refused, is_told, missed as call_missed, no_memory, not_opened, nothing, opened, restarted, wants_memory}
 use Rattle.lab_core.specs.Lists.{DoesNext, Ground, Listing, set_at}
@@ -37,8 +37,8 @@ use Rattle.complete.proofs.JudgedUncut.{IsJudgedUncut, judged_uncut}
 use Rattle.complete.proofs.Sending.{breaks_few, broken_none, calm_none, commands_both, finish_few, open_few, settled_both, settled_more, whole_none}
 use Rattle.lab_core.specs.Moments.{with_more}
 
--- what stands behind the steps of a swap has no command
-starts_none : (outcome : Outcome) (behind : List Event) → StartsBehind outcome behind → commands_in behind ≡ 0
+-- what stands after the steps of a swap has no command
+starts_none : (outcome : Outcome) (behind : List Event) → StartsAfter outcome behind → commands_in behind ≡ 0
 starts_none Halted behind starts = ap commands_in starts.2
 starts_none More behind starts = ap commands_in starts
 starts_none (TurnsBack why) behind starts = ap commands_in starts

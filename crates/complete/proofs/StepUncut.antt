@@ -15,7 +15,7 @@ use Rattle.lab_core.proofs.ListSteps.{plain_step}
 use Rattle.complete.specs.Booted.{GoesWell}
 use Rattle.complete.proofs.BatchUncut.{batch_uncut, cut_told, told_cut}
 use Rattle.complete.proofs.DoneUncut.{AreSafe, cut_if, done_by_uncut, no_break}
-use Rattle.complete.proofs.GoingWell.{well_behind}
+use Rattle.complete.proofs.GoingWell.{well_after}
 use Rattle.complete.proofs.PlayUncut.{plays_uncut}
 use Rattle.lab_core.specs.Moments.{with_more}
 
@@ -25,7 +25,7 @@ module _ (terms : Terms) (at : Option (List Event)) (set : Setting) (s : LabStat
   all_well = subst GoesWell (append_assoc opening own more) well
 
   own_well : GoesWell (own ++ more)
-  own_well = well_behind opening (own ++ more) all_well
+  own_well = well_after opening (own ++ more) all_well
 
   by_drill : (session : Session) → Drills terms.takes s session own after → cut_if after.reply ≡ false
   by_drill session (is_planned takes none is) = ap (λ (x : After). cut_if x.reply) is

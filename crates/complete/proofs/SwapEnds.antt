@@ -332,7 +332,7 @@ still_open terms once exp made (c ∷ middle) after trace session are handed dif
         let r = rest y is_at in
         (r.0, r.1, r.2 ∙ kept.same)
 
--- it goes forth, by one command, and those behind it
+-- it goes forth, by one command, and those after it
 module _ (terms : Terms) (once : StandOnce) (exp : List ℕ) (made : List Begun) (trace : List Event) (b : Begun) (is : IsPiece terms trace b.piece) (differ : AllDiffer (busy_of b.piece.from)) (here : GoingAt made trace b.piece.from) (middle : List Begun) (o : OpenSwap)
     (was_at : open_at exp (opens_of b.piece.from) ≡ Some o) (forth : o.running.leg ≡ Forth)
     (goes : (q : OpenSwap) → open_at exp (opens_of b.piece.to) ≡ Some q → q.running.leg ≡ Forth → IsOnForth exp q (session_after b.piece.to middle) middle)

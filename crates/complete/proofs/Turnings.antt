@@ -1,4 +1,4 @@
--- Turning ends: an open swap is turned, while it is open, at most as often as its leg and its undo have commands; and behind a `finish` it is not open.
+-- Turning ends: an open swap is turned, while it is open, at most as often as its leg and its undo have commands; and after a `finish` it is not open.
 use Rattle.std.specs.Str.{bytes_eq}
 use Rattle.std.proofs.Common.{◌≡◌, ◌⊎◌, inl, inr, ℕ, ◌+◌, ◌≤◌, ◌^◌, Bool, true, false, is_some, List, [], ◌∷◌, ◌++◌, Option, Some, None, Result, Ok, Err, refl, sym, ◌∙◌, ap, subst, arith, if◌then◌else◌}
 use Rattle.std.proofs.lemmas.Bool.{false_from_ne_true}
@@ -50,7 +50,7 @@ only_one exp (x ∷ opens) differ o p is (inr has) named =
     let other = false_from_ne_true (bytes_eq (name_in x) exp) (λ h. differ.0 (name_in p) (Has-mapped name_in opens p has) ((bytes_eq-Decides (name_in x) exp).0 h ∙ sym named)) in
     only_one exp opens differ.1 o p (subst (λ b. (if b then Some x else open_at exp opens) ≡ Some o) other is) has named
 
--- WEIGHED, behind so many turns: what was sent of it has grown by as much at least as what its leg and its undo have is less
+-- WEIGHED, after so many turns: what was sent of it has grown by as much at least as what its leg and its undo have is less
 abbrev Weighs : ℕ → LabState → RunningSwap → LabState → RunningSwap → Type 0
 Weighs n s o u q = n + (commands_in o.course + most_from (lab_in u.lab) q.swap q.leg) ≤ commands_in q.course + most_from (lab_in s.lab) o.swap o.leg
 
@@ -222,7 +222,7 @@ module _ (terms : Terms) (once : StandOnce) (made : List Begun) (trace : List Ev
         subst (λ (x : Session). LabStep terms (Some trace) set_of l.first x command b.piece.opening all ends) from_is
         (subst (λ (c : Command). LabStep terms (Some trace) set_of l.first b.piece.from c b.piece.opening all ends) asks l.steps.step)
 
-    -- THE OPEN SWAP of that name, before and behind it
+    -- THE OPEN SWAP of that name, before and after it
     module _ (exp : List ℕ) (o q : OpenSwap) (was_at : open_at exp (opens_of b.piece.from) ≡ Some o) (is_at : open_at exp to ≡ Some q) where
       its : Has (opens_of b.piece.from) o × (name_in o ≡ exp)
       its = has_at exp (opens_of b.piece.from) o was_at
@@ -260,7 +260,7 @@ module _ (terms : Terms) (once : StandOnce) (made : List Begun) (trace : List Ev
           by (TurnOf name) asks = by_name name (bytes_eq name exp) refl asks
           by command asks = by_any.0
 
-    -- behind a `finish`
+    -- after a `finish`
     finished_open : (exp : List ℕ) (from : Session) → b.piece.from ≡ from → b.piece.command ≡ FinishOf exp → open_at exp to ≡ None
     finished_open exp Closed from_is asks = by (step_by Closed (FinishOf exp) from_is asks)
       where
@@ -283,7 +283,7 @@ module _ (terms : Terms) (once : StandOnce) (made : List Begun) (trace : List Ev
             finish_leaves exp set_of l.first opens differ_here all ends to session_is o at
             (sane_set terms once made trace b is differ here l.first (first_at o has) o has).1 (here l.first (first_at o has) o has).course.moves terms done
 
-  -- BEHIND A `finish` the experiment has no open swap
+  -- AFTER A `finish` the experiment has no open swap
   pub finished : (exp : List ℕ) → b.piece.command ≡ FinishOf exp → open_at exp (opens_of b.piece.to) ≡ None
   finished exp asks = by b.piece.to refl
     where
@@ -291,7 +291,7 @@ module _ (terms : Terms) (once : StandOnce) (made : List Begun) (trace : List Ev
       by Closed shut = refl
       by (Open to) open_now = finished_open (ap drill_of asks) (is.leads (ap drill_of asks) (ap is_closed open_now)) to open_now exp b.piece.from refl asks
 
-  -- THE LAB BEHIND IT, and how the open swap of a name weighs
+  -- THE LAB AFTER IT, and how the open swap of a name weighs
   pub next_weighs : (exp : List ℕ) (s : LabState) → IsLabAt trace s → (o q : OpenSwap) → open_at exp (opens_of b.piece.from) ≡ Some o → open_at exp (opens_of b.piece.to) ≡ Some q
       → (u : LabState) × IsLabAt (trace ++ steps_of b.piece) u × Weighs (turn_if exp b.piece.command) s o.running u q.running
   next_weighs exp s at o q was_at is_at = by b.piece.to refl
@@ -331,7 +331,7 @@ module _ (terms : Terms) (once : StandOnce) (made : List Begun) (trace : List Ev
           by_drill None none = led none to open_now
           by_drill (Some drill) it = drilled drill it (subst (λ (d : Option Drill). Finds d b.piece.from trace b.piece) it is.finds) to open_now
 
--- WHILE IT IS OPEN: by one command, and those behind it
+-- WHILE IT IS OPEN: by one command, and those after it
 module _ (terms : Terms) (once : StandOnce) (exp : List ℕ) (made : List Begun) (trace : List Event) (b : Begun) (is : IsPiece terms trace b.piece) (differ : AllDiffer (busy_of b.piece.from)) (here : GoingAt made trace b.piece.from) (s : LabState) (at : IsLabAt trace s)
     (o : OpenSwap) (was_at : open_at exp (opens_of b.piece.from) ≡ Some o) (n : ℕ) where
   turns_more : ((u : LabState) → IsLabAt (trace ++ steps_of b.piece) u → (q : OpenSwap) → open_at exp (opens_of b.piece.to) ≡ Some q → commands_in q.running.course + n ≤ most_from (lab_in u.lab) q.running.swap q.running.leg)

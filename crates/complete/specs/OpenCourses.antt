@@ -43,8 +43,8 @@ abbrev pub AreOnLeg : Swap → Leg → List Begun → Type 0
 AreOnLeg swap leg [] = Unit {0}
 AreOnLeg swap leg (b ∷ made) = IsOnLeg swap leg b.piece.from × AreOnLeg swap leg made
 
--- THE COURSE OF AN OPEN SWAP, behind these commands and in the lab of that moment: its experiment moves so, one of the commands began its leg, it was on
--- that leg ever since, and its course is the experiment's own commands among the steps behind that one
+-- THE COURSE OF AN OPEN SWAP, after these commands and in the lab of that moment: its experiment moves so, one of the commands began its leg, it was on
+-- that leg ever since, and its course is the experiment's own commands among the steps after that one
 pub record IsCourse (made : List Begun) (s : LabState) (o : RunningSwap) : Type 0 where
   pub moves : Moves o.swap s
   pub front : List Begun

@@ -18,7 +18,7 @@ use Rattle.lab_core.specs.Sessions.{OpenSwap, name_in, names_of}
 use Rattle.lab_core.specs.Tells.{IsTurnOf}
 use Rattle.complete.specs.Bounds.{commands_in, most_from, most_settled}
 
--- A SWAP BEGINS AND IS TURNED TO ITS END: its Begin is appended, and in the lab behind that the experiment moves so; at most as many commands are sent as
+-- A SWAP BEGINS AND IS TURNED TO ITS END: its Begin is appended, and in the lab after that the experiment moves so; at most as many commands are sent as
 -- that move and its undo have
 pub record BeginsWithin (s : LabState) (exp : List ℕ) (own : List Event) : Type 0 where
   pub side : Side
@@ -73,7 +73,7 @@ pub data SwapsWithin (about : List ℕ → Bool) : List Event → ℕ → Type 0
   swaps : (front steps : List Event) (most : ℕ) → SwapsWithin about front most → (s : LabState) (exp : List ℕ) → about exp ≡ true → (begins : BeginsWithin s exp steps)
       → SwapsWithin about (front ++ steps) (most + most_from (lab_in begins.state.lab) begins.swap Forth)
 
--- A TURN GOES ON: it sends one command, and the swap is open behind it with a course that is longer by that one, and no longer than its leg and undo have
+-- A TURN GOES ON: it sends one command, and the swap is open after it with a course that is longer by that one, and no longer than its leg and undo have
 pub record TurnsOn (s : LabState) (opens to : List OpenSwap) (exp : List ℕ) (own : List Event) : Type 0 where
   pub swap : OpenSwap
   pub is_open : Has opens swap

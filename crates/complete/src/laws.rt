@@ -88,12 +88,12 @@ pub fn turns_have_room()
         → settles_or_turns command ≡ true → LabStep terms at set s session command opening own after → full_if after.reply ≡ false }
 {}
 
-/// One command among whatever happened before it and behind it, over every sound trace. Where nothing disturbs it, its reply tells of no course that was
+/// One command among whatever happened before it and after it, over every sound trace. Where nothing disturbs it, its reply tells of no course that was
 /// cut, nor of a failure of the journal or a stop, and no course of its opening is cut.
-/// Behind an opening in which nothing goes wrong no experiment moves, in every image that a later stop may leave, where its command is answered or did
-/// something of its own. Behind a `recover` in which nothing goes wrong none is stuck, and only those with an open swap move.
+/// After an opening in which nothing goes wrong no experiment moves, in every image that a later stop may leave, where its command is answered or did
+/// something of its own. After a `recover` in which nothing goes wrong none is stuck, and only those with an open swap move.
 /// So a command that failed harms no later one: a supplied solution in whose steps nothing goes wrong is taken exactly where it is feasible on the
-/// free rest of the lab behind the opening, unless there is no room for it.
+/// free rest of the lab after the opening, unless there is no room for it.
 pub fn quiet_commands()
     ensures whole { (terms : Terms) (choices : Option Choices) (old new : Outside) (status : Status) (before after : List Begun) (b : Begun) (t : Told)
         → Ran terms choices old new status (before ++ b ∷ after) → old.plant.told ≡ Some t → IsSound the_texts t.trace
@@ -162,8 +162,8 @@ pub fn few_commands()
 {}
 
 /// How open swaps end, over any trace, with trouble or without, whatever other commands stand between.
-/// Turning ends: while it is open, a swap is turned at most as often as its leg, with its undo, has device commands that were not sent before. So behind
-/// that many turns, the next one ends it. One `finish` does: behind it the experiment has no open swap.
+/// Turning ends: while it is open, a swap is turned at most as often as its leg, with its undo, has device commands that were not sent before. So after
+/// that many turns, the next one ends it. One `finish` does: after it the experiment has no open swap.
 /// A swap on its way forth is answered as done by the command that ends it, unless a turn before it told trouble, or that command tells that it failed,
 /// shuts the controller, or has no reply. So `open` with a solution that is feasible leads to `in E`, unless one of these comes between.
 pub fn swaps_end()

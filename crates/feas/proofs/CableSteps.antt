@@ -12,7 +12,7 @@ use Rattle.virt_topo.proofs.EndLaws.{ends_from}
 use Rattle.virt_topo.proofs.CableLaws.{length-cables}
 use Rattle.lab_model.specs.Rules.{no_cable, cable_at}
 
--- the cable of the segment at i, and those behind it
+-- the cable of the segment at i, and those after it
 pub record IsAt (segments : List Segment) (plugs rest : List IfaceId) (i : ℕ) (d : Segment) (e : Cable) : Type 0 where
   pub here : (get_or (cables segments plugs) i e).plugs ≡ take (length (get_or segments i d).ends) rest
   pub behind : drop (i + 1) (cables segments plugs) ≡ cables (drop (i + 1) segments) (drop (length (get_or segments i d).ends) rest)
@@ -39,7 +39,7 @@ pub ends_at : (segments : List Segment) (i : ℕ) (d : Segment) → i < length s
     → length (end_nodes (drop i segments)) ≡ length (get_or segments i d).ends + length (end_nodes (drop (i + 1) segments))
 ends_at segments i d lt = ends_from segments i (get_or segments i d) lt (get_or_default segments i d (get_or segments i d) lt)
 
--- the plugs of the segment at i are these, and those of the segments behind it are the others
+-- the plugs of the segment at i are these, and those of the segments after it are the others
 pub record IsCut (w : Wiring) (m : Mapping) (i len : ℕ) (own later : List IfaceId) : Type 0 where
   pub here : own ≡ (cable_at w m i).plugs
   pub behind : drop (i + 1) (cables w.segments m.plugs) ≡ cables (drop (i + 1) w.segments) later

@@ -1,4 +1,4 @@
-mod GuestLaws
+mod HostedNodeLaws
 mod EndLists
 mod LoadLists
 pub mod JoinLaws

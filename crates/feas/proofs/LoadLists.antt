@@ -103,7 +103,7 @@ too_much i loads plugs k left x d q same lt on gt =
     by : (n : ℕ) → nat_le ((get_or loads k d).kbps + n) left ≡ false
     by n = grind (arith, nat_tests)
 
--- behind the last
+-- after the last
 pub ended : (i : ℕ) (loads : List Load) (plugs : List IfaceId) (k left : ℕ) (x : Load) → length plugs ≤ k → length loads ≡ length plugs → left_to x (later_on i loads plugs k) left ≡ true
 ended i loads plugs k left x le same =
     let one = drop_all k loads (omega (arith, le, same)) in

@@ -3,7 +3,7 @@ ghost use Rattle.std.specs.Prelude.{◌≡◌, IfSome, true, ◌<◌, ◌≤◌,
 ghost use Rattle.std.specs.List.{list_all};
 ghost use Rattle.lab_base.specs.Names.{same_name};
 ghost use Rattle.lab_model.specs.Shapes.{IsShaped, node_at};
-ghost use Rattle.lab_model.specs.Rules.{guests, number_of, agree, keeps_f2};
+ghost use Rattle.lab_model.specs.Rules.{hosted, number_of, agree, keeps_f2};
 ghost use Rattle.lab_model.specs.Feasible.{AllPass, first_below};
 
 use lab_base::{Memory, Name, NodeId};
@@ -12,7 +12,7 @@ use phys_lab::Lab;
 use std::alloc::Global;
 use virt_topo::{Mapping, VirtNode, Wiring};
 
-fn push_guest(
+fn push_hosted_node(
     listed: &mut Vec<(Name, Name)>,
     place: &(NodeId, Name),
     virt: &VirtNode,
@@ -27,18 +27,18 @@ fn push_guest(
 }
 
 /// The virtual nodes on a node, each with its type there and its OS.
-fn guests(
+fn hosted(
     alloc: Global,
     nodes: &[VirtNode],
     places: &[(NodeId, Name)],
     node: u16,
 ) -> Result<Vec<(Name, Name)>, Memory>
     requires { length places.now ≤ length nodes.now }
-    ensures { IfOk result (λ listed. listed.items ≡ guests nodes.now places.now node) }
+    ensures { IfOk result (λ listed. listed.items ≡ hosted nodes.now places.now node) }
 {
     let mut listed = Vec::new(alloc);
     for virt in 0..places.len() {
-        push_guest(&mut listed, &places[virt], &nodes[virt], node)?;
+        push_hosted_node(&mut listed, &places[virt], &nodes[virt], node)?;
     }
     Ok(listed)
 }
@@ -55,16 +55,16 @@ pub fn number_of(pairs: &[(Name, u16)], name: Name) -> u16
     0
 }
 
-fn are_alike(guests: &[(Name, Name)], kind: Name, os: Name) -> bool
-    ensures { result ≡ list_all (λ h. same_name h.0 kind && same_name h.1 os) guests.now }
+fn are_alike(hosted: &[(Name, Name)], kind: Name, os: Name) -> bool
+    ensures { result ≡ list_all (λ h. same_name h.0 kind && same_name h.1 os) hosted.now }
 {
-    guests.iter().all(|guest| guest.0 == kind && guest.1 == os)
+    hosted.iter().all(|guest| guest.0 == kind && guest.1 == os)
 }
 
-fn agree(types: &[(Name, u16)], guests: &[(Name, Name)]) -> bool
-    ensures { result ≡ agree types.now guests.now }
+fn agree(types: &[(Name, u16)], hosted: &[(Name, Name)]) -> bool
+    ensures { result ≡ agree types.now hosted.now }
 {
-    match guests.split_first() {
+    match hosted.split_first() {
         Some((first, others)) => {
             are_alike(others, first.0, first.1) && others.len() < number_of(types, first.0) as usize
         }
@@ -83,11 +83,11 @@ pub fn may_share(
 ) -> Result<bool, Memory>
     requires few { length places.now ≤ length nodes.now }
     requires node { node.0 < length lab.now.nodes }
-    ensures { IfOk result (λ yes. yes ≡ agree (node_at lab.now node).types (guests nodes.now places.now node.0)) }
+    ensures { IfOk result (λ yes. yes ≡ agree (node_at lab.now node).types (hosted nodes.now places.now node.0)) }
 {
-    let guests = guests(alloc, nodes, places, node.0)?;
+    let hosted = hosted(alloc, nodes, places, node.0)?;
     let types = node_at(lab, node).types.as_slice();
-    Ok(agree(types, &guests))
+    Ok(agree(types, &hosted))
 }
 
 fn keeps_f2(

@@ -1,4 +1,4 @@
--- A folder behind a kill or a loss of power.
+-- A folder after a kill or a loss of power.
 use Rattle.std.specs.Prelude.{◌≡◌, ℕ, List, [], ◌∷◌, ◌++◌, length, take}
 use Rattle.lab_base.specs.Lists.{Has}
 use Rattle.plant.specs.Disks.{ArePossible}

@@ -16,7 +16,7 @@ pub record Names : Type 0 where
   -- a durable text of the tables, while a newer one isn't
   pub old : List ℕ
 
--- a name behind the folder's and a `/`
+-- a name after the folder's and a `/`
 abbrev pub inside : List ℕ → List ℕ → List ℕ
 inside folder name = folder ++ 47 ∷ name
 

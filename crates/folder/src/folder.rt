@@ -12,7 +12,7 @@ use plant::{Answer, DeviceOp, Fault, Faults, Side};
 /// The files of a lab's folder: the two sides of the journal, and a text of tables.
 ///
 /// A folder may tell what it holds and what happened to it, whichever program did it. A program that is killed inside a call leaves the
-/// folder stopped in that call; the next program begins behind `restart`.
+/// folder stopped in that call; the next program begins after `restart`.
 pub trait Folder {
     /// All that the folder holds and that happened to it, where it tells it.
     ghost told: { Self → Option Held };

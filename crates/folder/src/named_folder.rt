@@ -71,7 +71,7 @@ impl<F: FolderFiles + Drop> NamedFolder<F> {
         self.refused
     }
 
-    /// The text of the tables, whose file has their name behind it. It is as durable as it was.
+    /// The text of the tables, whose file has their name after it. It is as durable as it was.
     pub(crate) fn settled(&mut self) -> Result<Vec<u8>, Fault>
         ensures told { as_held (F.told self.new.files) ≡ as_held (F.told self.old.files) }
         ensures text { ForSome (F.told self.old.files) (λ k. IfOk result (λ bytes. bytes.items ≡ text_in k.files)) }
@@ -85,7 +85,7 @@ impl<F: FolderFiles + Drop> NamedFolder<F> {
         Ok(bytes)
     }
 
-    /// Whether a file has the name of the tables, behind a look for one where it isn't known.
+    /// Whether a file has the name of the tables, after a look for one where it isn't known.
     pub(crate) fn has_tables(&mut self) -> bool
         ensures told { as_held (F.told self.new.files) ≡ as_held (F.told self.old.files) }
         ensures there { IsTrue result → self.new.there ≡ true }

@@ -39,7 +39,7 @@ impl Model for Paths {
     } };
 }
 
-/// A name behind the folder's.
+/// A name after the folder's.
 fn joined(alloc: Global, folder: &str, name: &str) -> Result<String, Memory>
     ensures { IfOk result (λ path. string_bytes path ≡ inside folder.now name.now) }
 {

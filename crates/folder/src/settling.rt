@@ -107,7 +107,7 @@ fn settle_beside<F: FolderFiles>(files: &mut F, alloc: Global) -> Result<Vec<u8>
     }
 }
 
-/// The text of the folder, whose file has the name of the tables behind it. It stays the same where this fails.
+/// The text of the folder, whose file has the name of the tables after it. It stays the same where this fails.
 pub(crate) fn settle<F: FolderFiles>(files: &mut F, alloc: Global) -> Result<Vec<u8>, Fault>
     ensures told { as_held (F.told files.new) ≡ as_held (F.told files.old) }
     ensures text { ForSome (F.told files.old) (λ k. IfOk result (λ bytes. bytes.items ≡ text_in k.files)) }

@@ -8,11 +8,11 @@ use crate::row::OPENING;
 use crate::runs::{begin, is_cut_off, lose, olds, run, stop_in, tables};
 use mem_folder::MemFolder;
 use plant::Pick;
-use row_words::Untold;
+use row_words::RowFault;
 use std::alloc::{AllocError, Global};
 use std::fmt::Write;
 
-/// A case: a script before the command, perhaps a script behind it that is killed in its call of that number, the command, and the ends behind
+/// A case: a script before the command, perhaps a script after it that is killed in its call of that number, the command, and the ends after
 /// none, one, .. of its replies.
 #[derive(Clone, Copy)]
 pub struct Case<'a> {
@@ -33,7 +33,7 @@ struct Cut {
 const PICKS: [Pick; 3] = [Pick::Nothing, Pick::All, Pick::Torn];
 
 /// Runs what stands before the command of a case, over a blank folder.
-fn begun(alloc: Global, case: &Case<'_>, slot: &mut Option<MemFolder>) -> Result<(), Untold>
+fn begun(alloc: Global, case: &Case<'_>, slot: &mut Option<MemFolder>) -> Result<(), RowFault>
     ensures { IfSome slot.new (λ folder. IsLeft (held_of folder)) }
 {
     begin(alloc, slot)?;
@@ -52,7 +52,7 @@ fn cut_off(
     case: &Case<'_>,
     cut: Cut,
     slot: &mut Option<MemFolder>,
-) -> Result<String, Untold>
+) -> Result<String, RowFault>
     ensures { IfSome slot.new (λ folder. IsLeft (held_of folder)) }
 {
     begun(alloc, case, slot)?;
@@ -62,7 +62,7 @@ fn cut_off(
 
 /// The replies and the tables that the next opening finds. An audit tells of nothing, and a second opening finds all as it was: else both outputs are
 /// there, which are no end.
-fn found(alloc: Global, slot: &mut Option<MemFolder>) -> Result<String, Untold>
+fn found(alloc: Global, slot: &mut Option<MemFolder>) -> Result<String, RowFault>
     requires { IfSome slot.old (λ folder. IsLeft (held_of folder)) }
 {
     let first = run(alloc, OPENING, slot)?;
@@ -105,7 +105,7 @@ fn complain(out: &mut String, cut: Cut, output: &str, found: &str) -> Result<(),
     )
 }
 
-/// Loses power behind a command that is cut off, and opens what is left; complains where that is no end.
+/// Loses power after a command that is cut off, and opens what is left; complains where that is no end.
 fn lose_in(
     alloc: Global,
     case: &Case<'_>,
@@ -113,7 +113,7 @@ fn lose_in(
     loss: (Pick, usize),
     slot: &mut Option<MemFolder>,
     out: &mut String,
-) -> Result<(), Untold> {
+) -> Result<(), RowFault> {
     let output = cut_off(alloc, case, cut, slot)?;
     lose(slot, loss.0, loss.1)?;
     let found = found(alloc, slot)?;
@@ -123,14 +123,14 @@ fn lose_in(
     Ok(complain(out, cut, output.as_str(), found.as_str())?)
 }
 
-/// Loses power in each way behind a command that is cut off; gives in how many.
+/// Loses power in each way after a command that is cut off; gives in how many.
 fn losses(
     alloc: Global,
     case: &Case<'_>,
     cut: Cut,
     slot: &mut Option<MemFolder>,
     out: &mut String,
-) -> Result<u32, Untold> {
+) -> Result<u32, RowFault> {
     let mut count = 0u32;
     for back in 0..=olds(slot) {
         for pick in PICKS {
@@ -147,7 +147,7 @@ pub fn crashes(
     alloc: Global,
     case: &Case<'_>,
     slot: &mut Option<MemFolder>,
-) -> Result<String, Untold> {
+) -> Result<String, RowFault> {
     let mut out = String::new(alloc);
     let mut sum = 0u32;
     for half in 0..2_000u64 {

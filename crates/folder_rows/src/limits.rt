@@ -21,7 +21,7 @@ use phys_lab::Lab;
 use plant::Tables;
 use plant_file::FolderLab;
 use row_files::{letters_in, script_of};
-use row_words::Untold;
+use row_words::RowFault;
 use rule_costs::{cost_of, parts_cost, step_cost};
 use script_text::{Command, Next, Reply, read_command, reply_text};
 use std::alloc::Global;
@@ -31,26 +31,30 @@ use virt_topo::{Mapping, Wiring};
 const MOST: u64 = 4_294_967_296;
 
 /// The next command of a script without drills.
-fn next_of(alloc: Global, lines: &mut LineReader, script: &mut MemSource) -> Result<Command, Untold>
+fn next_of(
+    alloc: Global,
+    lines: &mut LineReader,
+    script: &mut MemSource,
+) -> Result<Command, RowFault>
     ensures blocks { IfOk result HasBlocks }
     ensures no_drill { IfOk result (λ command. drill_of command ≡ None) }
 {
     let Ok(Next::Command(command)) = read_command(alloc, lines, script) else {
-        return Err(Untold::Word(Kind::Command));
+        return Err(RowFault::Word(Kind::Command));
     };
     match command.drill() {
-        Some(_) => Err(Untold::Word(Kind::Command)),
+        Some(_) => Err(RowFault::Word(Kind::Command)),
         None => Ok(command),
     }
 }
 
-/// The reply to a command, where the controller is of use behind it.
+/// The reply to a command, where the controller is of use after it.
 fn obeyed<P: Tables>(
     controller: &mut Controller,
     command: &Command,
     rule: &StepRule,
     plant: &mut P,
-) -> Result<Reply, Untold>
+) -> Result<Reply, RowFault>
     requires blocks { HasBlocks command.now }
     requires no_drill { drill_of command.now ≡ None }
     requires works { CanWork (P.seen plant.old) controller.old }
@@ -59,12 +63,12 @@ fn obeyed<P: Tables>(
     match controller.obey(command, rule, plant) {
         Ok(reply) => {
             if reply.closes() {
-                Err(Untold::Plant)
+                Err(RowFault::Plant)
             } else {
                 Ok(reply)
             }
         }
-        Err(_) => Err(Untold::Plant),
+        Err(_) => Err(RowFault::Plant),
     }
 }
 
@@ -76,7 +80,7 @@ fn reply_to_next<P: Tables>(
     controller: &mut Controller,
     rule: &StepRule,
     plant: &mut P,
-) -> Result<Reply, Untold>
+) -> Result<Reply, RowFault>
     requires works { CanWork (P.seen plant.old) controller.old }
     ensures works { OnOk result (CanWork (P.seen plant.new) controller.new) }
 {
@@ -91,7 +95,7 @@ fn third_reply<P: Tables>(
     controller: &mut Controller,
     rule: &StepRule,
     plant: &mut P,
-) -> Result<Reply, Untold>
+) -> Result<Reply, RowFault>
     requires works { CanWork (P.seen plant.old) controller.old }
 {
     let mut lines = LineReader::new(alloc)?;
@@ -117,19 +121,19 @@ fn blank_plant(alloc: Global) -> Result<FolderLab<NamedFolder<MemFolder>>, Memor
 }
 
 /// The reply to the third command of a script, by a controller with that limit over such a plant.
-fn reply_under(alloc: Global, rule: &StepRule, limit: u64, script: &[u8]) -> Result<Reply, Untold>
+fn reply_under(alloc: Global, rule: &StepRule, limit: u64, script: &[u8]) -> Result<Reply, RowFault>
     requires least { 18 ≤ limit }
     requires most { limit ≤ 2 ^ 32 }
 {
     let mut plant = blank_plant(alloc)?;
     let Ok(mut controller) = Controller::open(alloc, limit, &mut plant) else {
-        return Err(Untold::Plant);
+        return Err(RowFault::Plant);
     };
     third_reply(alloc, script, &mut controller, rule, &mut plant)
 }
 
 /// The reply under that limit, by the rule that serves where none is chosen.
-fn reply_within(alloc: Global, limit: u64, script: &[u8]) -> Result<Reply, Untold>
+fn reply_within(alloc: Global, limit: u64, script: &[u8]) -> Result<Reply, RowFault>
     requires least { 18 ≤ limit }
     requires most { limit ≤ 2 ^ 32 }
 {
@@ -148,13 +152,13 @@ fn reply_within(alloc: Global, limit: u64, script: &[u8]) -> Result<Reply, Untol
         ensures { result ≡ cost_of_parts number parts }
     { parts_cost(number, parts) };
     let Ok(whole) = Box::new(alloc, by_number) else {
-        return Err(Untold::Memory);
+        return Err(RowFault::Memory);
     };
     let Ok(step) = Box::new(alloc, by_step) else {
-        return Err(Untold::Memory);
+        return Err(RowFault::Memory);
     };
     let Ok(parted) = Box::new(alloc, by_parts) else {
-        return Err(Untold::Memory);
+        return Err(RowFault::Memory);
     };
     let whole: CostFn = whole;
     let step: StepFn = step;
@@ -164,9 +168,9 @@ fn reply_within(alloc: Global, limit: u64, script: &[u8]) -> Result<Reply, Untol
 }
 
 /// The reply to the third command of a script, where the journal has at most so many bytes.
-pub fn limit(rt: &HostRuntime, bytes: u64, file: &str) -> Result<String, Untold> {
+pub fn limit(rt: &HostRuntime, bytes: u64, file: &str) -> Result<String, RowFault> {
     if bytes < 18 || MOST < bytes {
-        return Err(Untold::Word(Kind::Range));
+        return Err(RowFault::Word(Kind::Range));
     }
     let script = script_of(rt, file)?;
     let reply = reply_within(rt.alloc(), bytes, script.as_bytes())?;

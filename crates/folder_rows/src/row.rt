@@ -4,12 +4,12 @@ use crate::limits::limit;
 use lab_base::Kind;
 use mem_folder::MemFolder;
 use row_files::{Marked, ends_of, script_of, scripts_of};
-use row_words::Untold;
+use row_words::RowFault;
 
 /// The script of an opening.
 pub const OPENING: &str = "status\nshow A\naudit\n";
 
-/// Which run a row cuts off: that of the last file, the opening behind that where it is killed in its call of a number, or the opening behind that
+/// Which run a row cuts off: that of the last file, the opening after that where it is killed in its call of a number, or the opening after that
 /// where its marked lines stand so often.
 #[derive(Clone, Copy)]
 enum Of {
@@ -25,9 +25,9 @@ fn cut_off(
     ends: &str,
     files: &[&str],
     slot: &mut Option<MemFolder>,
-) -> Result<String, Untold> {
+) -> Result<String, RowFault> {
     let [others @ .., last] = files else {
-        return Err(Untold::Word(Kind::Missing));
+        return Err(RowFault::Word(Kind::Missing));
     };
     let ends = ends_of(rt, ends)?;
     let mut before = scripts_of(rt, others)?;
@@ -56,7 +56,11 @@ fn cut_off(
 }
 
 /// The output of a row.
-pub fn told(rt: &HostRuntime, line: &str, slot: &mut Option<MemFolder>) -> Result<String, Untold> {
+pub fn told(
+    rt: &HostRuntime,
+    line: &str,
+    slot: &mut Option<MemFolder>,
+) -> Result<String, RowFault> {
     let words: Vec<&str> = line.split_whitespace().collect(rt.alloc())?;
     match words.as_slice() {
         ["crashes", ends, files @ ..] => cut_off(rt, Of::Last, ends, files, slot),
@@ -67,6 +71,6 @@ pub fn told(rt: &HostRuntime, line: &str, slot: &mut Option<MemFolder>) -> Resul
             cut_off(rt, Of::Many(count.parse()?), ends, files, slot)
         }
         ["limit", bytes, file] => limit(rt, bytes.parse()?, file),
-        _ => Err(Untold::Word(Kind::Unknown)),
+        _ => Err(RowFault::Word(Kind::Unknown)),
     }
 }

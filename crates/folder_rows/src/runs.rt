@@ -10,7 +10,7 @@ use lab_io::{MemSink, MemSource};
 use mem_folder::MemFolder;
 use plant::Pick;
 use row_files::letters_in;
-use row_words::Untold;
+use row_words::RowFault;
 use std::alloc::Global;
 use std::fmt::Write;
 
@@ -56,7 +56,7 @@ fn run_through(
 }
 
 /// The output of a script over the folder.
-pub fn run(alloc: Global, script: &str, slot: &mut Option<MemFolder>) -> Result<String, Untold>
+pub fn run(alloc: Global, script: &str, slot: &mut Option<MemFolder>) -> Result<String, RowFault>
     requires { IfSome slot.old (λ folder. IsLeft (held_of folder)) }
     ensures { IfSome slot.new (λ folder. IsLeft (held_of folder)) }
 {
@@ -94,7 +94,7 @@ pub fn olds(slot: &Option<MemFolder>) -> usize {
     }
 }
 
-/// The folder behind a loss of power, where there are so many older texts. It is a kill where the pick leaves all, and the newest text is left.
+/// The folder after a loss of power, where there are so many older texts. It is a kill where the pick leaves all, and the newest text is left.
 fn lost(folder: MemFolder, pick: Pick, back: usize) -> Result<MemFolder, Memory>
     requires { IsLeft (held_of folder) }
     ensures { IfOk result (λ folder. IsLeft (held_of folder)) }
@@ -127,7 +127,7 @@ pub fn lose(slot: &mut Option<MemFolder>, pick: Pick, back: usize) -> Result<(),
 }
 
 /// The lines of a text, in order.
-fn in_order(alloc: Global, text: &str) -> Result<String, Untold> {
+fn in_order(alloc: Global, text: &str) -> Result<String, RowFault> {
     let mut lines: Vec<&str> = text.lines().collect(alloc)?;
     lines.sort()?;
     let mut out = String::new(alloc);
@@ -138,13 +138,13 @@ fn in_order(alloc: Global, text: &str) -> Result<String, Untold> {
 }
 
 /// The text of the tables, its lines in order. It takes the folder.
-pub fn tables(alloc: Global, slot: &mut Option<MemFolder>) -> Result<String, Untold> {
+pub fn tables(alloc: Global, slot: &mut Option<MemFolder>) -> Result<String, RowFault> {
     match slot.take() {
         Some(folder) => {
             let mut named = NamedFolder::over(alloc, folder);
             let text = letters_in(alloc, &named.text()?)?;
             in_order(alloc, text.as_str())
         }
-        None => Err(Untold::Plant),
+        None => Err(RowFault::Plant),
     }
 }

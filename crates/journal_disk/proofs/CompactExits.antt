@@ -15,7 +15,7 @@ use Rattle.journal_disk.specs.declared.journal.Journal.{Journal}
 use Rattle.journal_disk.specs.Faults.{compact_fault}
 use Rattle.journal_disk.specs.Standing.{side_of, length_of, IsAt}
 use Rattle.journal_disk.specs.Epochs.{epoch_of, HasEpoch}
-use Rattle.journal_disk.specs.Compacting.{side_text, is_unshut, Come, come_steps, MayCome}
+use Rattle.journal_disk.specs.Compacting.{side_text, lacks_closed_gate, Come, come_steps, MayCome}
 use Rattle.journal_disk.specs.Compactions.{MoveEnds, MovesOver, Ends, Compacts, Shifts}
 use Rattle.journal_disk.proofs.CompactMoments.{shifts, stands_after}
 
@@ -34,9 +34,9 @@ module _ (told new : Option Told) (j : Journal) (packed : List ℕ) where
   CompactedBy result = (steps : List Event) × (new ≡ with_steps told steps) × IfSome told (λ t. Compacts t.trace steps j packed result)
 
   pub compacted : (result : Result (Unit {0}) Fault) → MovesOver (other_side (side_of j)) (side_text (epoch_of j + 1) packed) told new result → CompactedBy (answer_of result)
-  compacted result m = (come_steps (other_side (side_of j)) m.unshut m.far ++ m.more, m.trace, by told m.was)
+  compacted result m = (come_steps (other_side (side_of j)) m.to_close m.far ++ m.more, m.trace, by told m.was)
     where
-      by : (o : Option Told) → IfSome o (λ t. m.unshut ≡ is_unshut (disk (other_side (side_of j)) t.trace).reads) → IfSome o (λ t. Compacts t.trace (come_steps (other_side (side_of j)) m.unshut m.far ++ m.more) j packed (answer_of result))
+      by : (o : Option Told) → IfSome o (λ t. m.to_close ≡ lacks_closed_gate (disk (other_side (side_of j)) t.trace).reads) → IfSome o (λ t. Compacts t.trace (come_steps (other_side (side_of j)) m.to_close m.far ++ m.more) j packed (answer_of result))
       by None saw = tt
       by (Some t) saw = record {
         far = m.far;

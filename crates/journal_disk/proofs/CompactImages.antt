@@ -21,7 +21,7 @@ use Rattle.journal_model.proofs.Traces.{disk_more}
 use Rattle.journal_disk.specs.declared.journal.Journal.{Journal}
 use Rattle.journal_disk.specs.Standing.{side_of, IsAt}
 use Rattle.journal_disk.specs.Epochs.{epoch_of, HasEpoch}
-use Rattle.journal_disk.specs.Compacting.{side_text, is_unshut, Come, Untouched, Closing, Closed, Cutting, Emptied, Filling, Filled, Raising, InUse, come_steps, MayCome}
+use Rattle.journal_disk.specs.Compacting.{side_text, lacks_closed_gate, Come, Untouched, Closing, Closed, Cutting, Emptied, Filling, Filled, Raising, InUse, come_steps, MayCome}
 use Rattle.journal_disk.proofs.Shutting.{Shut, shut_image, shut_cut, shut_once, shut_on, poured_on, emptied_on, shut_at, emptied_at, poured_shut, filled_at}
 use Rattle.journal_disk.proofs.CompactSteps.{come_on, here_come, there_come}
 
@@ -35,7 +35,7 @@ ImageOf epoch text far image = IsOlder (head image) epoch
 blank_older : (image epoch : List ℕ) → head image ≡ Blank → IsOlder (head image) epoch
 blank_older image epoch blank = subst (λ (h : Head). IsOlder h epoch) (sym blank) tt
 
-closing_older : (bytes epoch : List ℕ) (byte : ℕ) (image : List ℕ) → is_unshut bytes ≡ true → IsOlder (head bytes) epoch → IsImage (wrote (at_once bytes) 0 (byte ∷ [])) image → IsOlder (head image) epoch
+closing_older : (bytes epoch : List ℕ) (byte : ℕ) (image : List ℕ) → lacks_closed_gate bytes ≡ true → IsOlder (head bytes) epoch → IsImage (wrote (at_once bytes) 0 (byte ∷ [])) image → IsOlder (head image) epoch
 closing_older [] epoch byte image is older i = blank_older image epoch (short_blank image (omega (arith, i.no_longer)))
 closing_older (gate ∷ rest) epoch byte image is older i =
     let same : image ≡ get_or image 0 0 ∷ rest = byte_image [] rest image gate byte i in
@@ -44,26 +44,26 @@ closing_older (gate ∷ rest) epoch byte image is older i =
       | inr shut ↦ blank_older image epoch (ap head same ∙ shut_blank (get_or image 0 0) rest shut)
     ]
 
-module _ (bytes epoch text : List ℕ) (unshut : Bool) (is : unshut ≡ is_unshut bytes) (older : IsOlder (head bytes) epoch) where
-  pub closed : Shut (shut_on (at_once bytes) unshut)
-  closed = shut_at bytes unshut is
+module _ (bytes epoch text : List ℕ) (to_close : Bool) (is : to_close ≡ lacks_closed_gate bytes) (older : IsOlder (head bytes) epoch) where
+  pub closed : Shut (shut_on (at_once bytes) to_close)
+  closed = shut_at bytes to_close is
 
-  pub emptied : emptied_on (at_once bytes) unshut ≡ at_once (closed.gate ∷ [])
-  emptied = emptied_at (shut_on (at_once bytes) unshut) closed
+  pub emptied : emptied_on (at_once bytes) to_close ≡ at_once (closed.gate ∷ [])
+  emptied = emptied_at (shut_on (at_once bytes) to_close) closed
 
-  emptied_shut : Shut (emptied_on (at_once bytes) unshut)
+  emptied_shut : Shut (emptied_on (at_once bytes) to_close)
   emptied_shut = subst Shut (sym emptied) (shut_once closed.gate [] closed.shut)
 
-  pub filled_is : (pieces : List (List ℕ)) → flat_map (λ piece. piece) pieces ≡ text → synced (poured_on (emptied_on (at_once bytes) unshut) 1 pieces) ≡ at_once (closed.gate ∷ text)
+  pub filled_is : (pieces : List (List ℕ)) → flat_map (λ piece. piece) pieces ≡ text → synced (poured_on (emptied_on (at_once bytes) to_close) 1 pieces) ≡ at_once (closed.gate ∷ text)
   filled_is pieces whole = ap (λ x. synced (poured_on x 1 pieces)) emptied ∙ filled_at closed.gate text pieces whole
 
   none_yet : (d : Disk) (image : List ℕ) → Shut d → IsImage d image → IsOlder (head image) epoch
   none_yet d image s i = blank_older image epoch (shut_image d image s i)
 
-  pub used_is : (pieces : List (List ℕ)) → flat_map (λ piece. piece) pieces ≡ text → come_on (at_once bytes) unshut (InUse pieces) ≡ at_once (165 ∷ text)
+  pub used_is : (pieces : List (List ℕ)) → flat_map (λ piece. piece) pieces ≡ text → come_on (at_once bytes) to_close (InUse pieces) ≡ at_once (165 ∷ text)
   used_is pieces whole = ap (λ x. synced (wrote x 0 (165 ∷ []))) (filled_is pieces whole)
 
-  pub image_of : (far : Come) → MayCome unshut text far → (image : List ℕ) → IsImage (come_on (at_once bytes) unshut far) image → ImageOf epoch text far image
+  pub image_of : (far : Come) → MayCome to_close text far → (image : List ℕ) → IsImage (come_on (at_once bytes) to_close far) image → ImageOf epoch text far image
   image_of Untouched may image i = subst (λ l. IsOlder (head l) epoch) (sym (synced_image (at_once bytes) image i)) older
   image_of (Closing byte) may image i = closing_older bytes epoch byte image (sym is ∙ may) older i
   image_of Closed may image i = none_yet _ image closed i
@@ -110,24 +110,24 @@ module _ (trace : List Event) (j : Journal) (rs ps : List Record) (packed : List
 
   -- whether it had no closed gate
   abbrev pub Saw : Bool → Type 0
-  Saw unshut = unshut ≡ is_unshut (disk there_side trace).reads
+  Saw to_close = to_close ≡ lacks_closed_gate (disk there_side trace).reads
 
   abbrev pub text_there : List ℕ
   text_there = side_text (epoch_of j + 1) packed
 
   abbrev pub steps_there : Bool → Come → List Event
-  steps_there unshut far = come_steps there_side unshut far
+  steps_there to_close far = come_steps there_side to_close far
 
-  was : (unshut : Bool) → Saw unshut → unshut ≡ is_unshut at.opened.known.other
-  was unshut saw = saw ∙ ap (λ (d : Disk). is_unshut d.reads) at.opened.known.there
+  was : (to_close : Bool) → Saw to_close → to_close ≡ lacks_closed_gate at.opened.known.other
+  was to_close saw = saw ∙ ap (λ (d : Disk). lacks_closed_gate d.reads) at.opened.known.there
 
-  live_stays : (unshut : Bool) (far : Come) → disk (side_of j) (trace ++ steps_there unshut far) ≡ disk (side_of j) trace
-  live_stays unshut far = disk_more (side_of j) trace (steps_there unshut far) ∙ there_come (side_of j) (disk (side_of j) trace) unshut far
+  live_stays : (to_close : Bool) (far : Come) → disk (side_of j) (trace ++ steps_there to_close far) ≡ disk (side_of j) trace
+  live_stays to_close far = disk_more (side_of j) trace (steps_there to_close far) ∙ there_come (side_of j) (disk (side_of j) trace) to_close far
 
-  pub other_comes : (unshut : Bool) (far : Come) → disk there_side (trace ++ steps_there unshut far) ≡ come_on (at_once at.opened.known.other) unshut far
-  other_comes unshut far =
-      disk_more there_side trace (steps_there unshut far) ∙ here_come there_side (disk there_side trace) unshut far
-      ∙ ap (λ d. come_on d unshut far) at.opened.known.there
+  pub other_comes : (to_close : Bool) (far : Come) → disk there_side (trace ++ steps_there to_close far) ≡ come_on (at_once at.opened.known.other) to_close far
+  other_comes to_close far =
+      disk_more there_side trace (steps_there to_close far) ∙ here_come there_side (disk there_side trace) to_close far
+      ∙ ap (λ d. come_on d to_close far) at.opened.known.there
 
   -- what the images have, each
   abbrev pub AfterCome : List ℕ → List ℕ → Come → Type 0
@@ -167,14 +167,14 @@ module _ (trace : List Event) (j : Journal) (rs ps : List Record) (packed : List
     by (InUse pieces) i = new i
 
   -- EACH IMAGE after each part of the move
-  pub come_images : (unshut : Bool) (far : Come) → Saw unshut → MayCome unshut text_there far → (a b : List ℕ) → ArePossible (trace ++ steps_there unshut far) a b → AfterCome a b far
-  come_images unshut far saw may a b possible =
-      let now = trace ++ steps_there unshut far in
-      let live : IsImage (disk (side_of j) trace) (of_side (side_of j) a b) = subst (λ d. IsImage d (of_side (side_of j) a b)) (live_stays unshut far) (possible_at (side_of j) now a b possible) in
-      let other : IsImage (come_on (at_once at.opened.known.other) unshut far) (of_side there_side a b) =
-      subst (λ d. IsImage d (of_side there_side a b)) (other_comes unshut far) (possible_at there_side now a b possible) in
+  pub come_images : (to_close : Bool) (far : Come) → Saw to_close → MayCome to_close text_there far → (a b : List ℕ) → ArePossible (trace ++ steps_there to_close far) a b → AfterCome a b far
+  come_images to_close far saw may a b possible =
+      let now = trace ++ steps_there to_close far in
+      let live : IsImage (disk (side_of j) trace) (of_side (side_of j) a b) = subst (λ d. IsImage d (of_side (side_of j) a b)) (live_stays to_close far) (possible_at (side_of j) now a b possible) in
+      let other : IsImage (come_on (at_once at.opened.known.other) to_close far) (of_side there_side a b) =
+      subst (λ d. IsImage d (of_side there_side a b)) (other_comes to_close far) (possible_at there_side now a b possible) in
       by a b (rests_image at.opened.epoch rs _ _ at.opened.rests live) far
-      (image_of at.opened.known.other at.opened.epoch text_there unshut (was unshut saw) at.opened.known.older far may (of_side there_side a b) other)
+      (image_of at.opened.known.other at.opened.epoch text_there to_close (was to_close saw) at.opened.known.older far may (of_side there_side a b) other)
 
   -- THE JOURNAL after the whole of it
   stands_on : (live : Side) (now : List Event) → disk live now ≡ at_once (front at.opened.epoch rs ++ at.opened.rests.gate ∷ at.opened.rests.behind)
@@ -198,13 +198,13 @@ module _ (trace : List Event) (j : Journal) (rs ps : List Record) (packed : List
       less : number at.opened.epoch < number (le 8 (epoch_of j + 1))
       less = omega (arith, same_epoch trace j rs at of', number_next (epoch_of j) below)
 
-  pub stands_there : (unshut : Bool) (pieces : List (List ℕ)) → Saw unshut → MayCome unshut text_there (InUse pieces) → Opened (trace ++ steps_there unshut (InUse pieces)) there_side ps
-  stands_there unshut pieces saw may =
-      stands_on (side_of j) (trace ++ steps_there unshut (InUse pieces)) (live_stays unshut (InUse pieces) ∙ at.opened.rests.is)
-      (other_comes unshut (InUse pieces) ∙ used_is at.opened.known.other at.opened.epoch text_there unshut (was unshut saw) at.opened.known.older pieces may.whole)
+  pub stands_there : (to_close : Bool) (pieces : List (List ℕ)) → Saw to_close → MayCome to_close text_there (InUse pieces) → Opened (trace ++ steps_there to_close (InUse pieces)) there_side ps
+  stands_there to_close pieces saw may =
+      stands_on (side_of j) (trace ++ steps_there to_close (InUse pieces)) (live_stays to_close (InUse pieces) ∙ at.opened.rests.is)
+      (other_comes to_close (InUse pieces) ∙ used_is at.opened.known.other at.opened.epoch text_there to_close (was to_close saw) at.opened.known.older pieces may.whole)
 
   -- whose side reads as the next epoch
-  pub head_there : (unshut : Bool) (pieces : List (List ℕ)) → Saw unshut → MayCome unshut text_there (InUse pieces) → head (disk there_side (trace ++ steps_there unshut (InUse pieces))).reads ≡ Headed (le 8 (epoch_of j + 1))
-  head_there unshut pieces saw may =
-      ap (λ (d : Disk). head d.reads) (other_comes unshut (InUse pieces) ∙ used_is at.opened.known.other at.opened.epoch text_there unshut (was unshut saw) at.opened.known.older pieces may.whole)
+  pub head_there : (to_close : Bool) (pieces : List (List ℕ)) → Saw to_close → MayCome to_close text_there (InUse pieces) → head (disk there_side (trace ++ steps_there to_close (InUse pieces))).reads ≡ Headed (le 8 (epoch_of j + 1))
+  head_there to_close pieces saw may =
+      ap (λ (d : Disk). head d.reads) (other_comes to_close (InUse pieces) ∙ used_is at.opened.known.other at.opened.epoch text_there to_close (was to_close saw) at.opened.known.older pieces may.whole)
       ∙ ap head (text_front (epoch_of j + 1) packed ps are) ∙ head_front (le 8 (epoch_of j + 1)) ps 0 [] refl

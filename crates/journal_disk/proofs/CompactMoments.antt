@@ -16,7 +16,7 @@ use Rattle.journal_disk.specs.declared.fault.CompactFault.{CompactFault}
 use Rattle.journal_disk.specs.declared.fault.CompactFault.TheVariants as faults
 use Rattle.journal_disk.specs.Standing.{side_of, gate_of, length_of, IsAt}
 use Rattle.journal_disk.specs.Epochs.{epoch_of, HasEpoch}
-use Rattle.journal_disk.specs.Compacting.{side_text, is_unshut, poured, Come, Untouched, Closing, Closed, Cutting, Emptied, Filling, Filled, Raising, InUse, shutting, emptying, filling, come_steps, MayCome, IsInUse}
+use Rattle.journal_disk.specs.Compacting.{side_text, lacks_closed_gate, text_writes, Come, Untouched, Closing, Closed, Cutting, Emptied, Filling, Filled, Raising, InUse, shutting, emptying, filling, come_steps, MayCome, IsInUse}
 use Rattle.journal_disk.specs.Compactions.{Ends, Compacts, Shifts}
 use Rattle.journal_disk.proofs.Prefixes.{AllPrefixes, each_prefix, one_more, missed_images}
 use Rattle.journal_disk.proofs.CompactImages.{AfterCome, come_images, stands_there, head_there, number_next}
@@ -29,7 +29,7 @@ module _ (trace : List Event) (j : Journal) (rs ps : List Record) (packed : List
   text = side_text (epoch_of j + 1) packed
 
   abbrev IsSeen : Bool → Type 0
-  IsSeen unshut = unshut ≡ is_unshut (disk side trace).reads
+  IsSeen to_close = to_close ≡ lacks_closed_gate (disk side trace).reads
 
   abbrev Fine : List Event → Type 0
   Fine front = (a b : List ℕ) → ArePossible (trace ++ front) a b → IsOn (side_of j) a b rs ⊎ IsOn side a b ps
@@ -45,76 +45,76 @@ module _ (trace : List Event) (j : Journal) (rs ps : List Record) (packed : List
   after (Raising pieces byte) a b h = h
   after (InUse pieces) a b h = inr h
 
-  fine : (unshut : Bool) (far : Come) → IsSeen unshut → MayCome unshut text far → Fine (come_steps side unshut far)
-  fine unshut far saw may a b possible = after far a b (come_images trace j rs ps packed at of' are below unshut far saw may a b possible)
+  fine : (to_close : Bool) (far : Come) → IsSeen to_close → MayCome to_close text far → Fine (come_steps side to_close far)
+  fine to_close far saw may a b possible = after far a b (come_images trace j rs ps packed at of' are below to_close far saw may a b possible)
 
   missed : (front : List Event) → Fine front → Fine (front ++ Missed side ∷ [])
   missed front h a b possible = h a b (missed_images side (trace ++ front) a b (subst (λ l. ArePossible l a b) (sym (append_assoc trace front (Missed side ∷ []))) possible))
 
   abbrev UpTo : Bool → Come → Type 0
-  UpTo unshut far = AllPrefixes Fine (come_steps side unshut far)
+  UpTo to_close far = AllPrefixes Fine (come_steps side to_close far)
 
   -- a step more
-  further : (unshut : Bool) (before now : Come) (step : Event) → IsSeen unshut → MayCome unshut text now → come_steps side unshut before ++ step ∷ [] ≡ come_steps side unshut now → UpTo unshut before → UpTo unshut now
-  further unshut before now step saw may joined h =
-      subst (λ l. AllPrefixes Fine l) joined (one_more Fine (come_steps side unshut before) step h (subst Fine (sym joined) (fine unshut now saw may)))
+  further : (to_close : Bool) (before now : Come) (step : Event) → IsSeen to_close → MayCome to_close text now → come_steps side to_close before ++ step ∷ [] ≡ come_steps side to_close now → UpTo to_close before → UpTo to_close now
+  further to_close before now step saw may joined h =
+      subst (λ l. AllPrefixes Fine l) joined (one_more Fine (come_steps side to_close before) step h (subst Fine (sym joined) (fine to_close now saw may)))
 
-  closed : (unshut : Bool) → IsSeen unshut → UpTo unshut Closed
+  closed : (to_close : Bool) → IsSeen to_close → UpTo to_close Closed
   closed true saw =
       further true (Closing 0) Closed (Synced side) saw tt refl
       (further true Untouched (Closing 0) (Wrote side 0 (0 ∷ [])) saw refl refl (fine true Untouched saw tt))
   closed false saw = fine false Untouched saw tt
 
-  closing : (unshut : Bool) (byte : ℕ) → IsSeen unshut → unshut ≡ true → UpTo unshut (Closing byte)
-  closing unshut byte saw may = further unshut Untouched (Closing byte) (Wrote side 0 (byte ∷ [])) saw may refl (fine unshut Untouched saw tt)
+  closing : (to_close : Bool) (byte : ℕ) → IsSeen to_close → to_close ≡ true → UpTo to_close (Closing byte)
+  closing to_close byte saw may = further to_close Untouched (Closing byte) (Wrote side 0 (byte ∷ [])) saw may refl (fine to_close Untouched saw tt)
 
-  cutting : (unshut : Bool) → IsSeen unshut → UpTo unshut Cutting
-  cutting unshut saw = further unshut Closed Cutting (Cut side 1) saw tt refl (closed unshut saw)
+  cutting : (to_close : Bool) → IsSeen to_close → UpTo to_close Cutting
+  cutting to_close saw = further to_close Closed Cutting (Cut side 1) saw tt refl (closed to_close saw)
 
-  emptied : (unshut : Bool) → IsSeen unshut → UpTo unshut Emptied
-  emptied unshut saw = further unshut Cutting Emptied (Synced side) saw tt (append_assoc (shutting side unshut) (Cut side 1 ∷ []) (Synced side ∷ [])) (cutting unshut saw)
+  emptied : (to_close : Bool) → IsSeen to_close → UpTo to_close Emptied
+  emptied to_close saw = further to_close Cutting Emptied (Synced side) saw tt (append_assoc (shutting side to_close) (Cut side 1 ∷ []) (Synced side ∷ [])) (cutting to_close saw)
 
-  all_poured : (steps : List Event) (place : ℕ) (pieces : List (List ℕ)) → AllPrefixes Fine steps → ((others : List (List ℕ)) → Fine (steps ++ poured side place others)) → AllPrefixes Fine (steps ++ poured side place pieces)
-  all_poured steps place [] h each = subst (λ l. AllPrefixes Fine l) (sym (append-nil steps)) h
-  all_poured steps place (piece ∷ pieces) h each =
-      let step : List Event = Wrote side place piece ∷ [] in
-      subst (λ l. AllPrefixes Fine l) (append_assoc steps step (poured side (place + length piece) pieces))
-      (all_poured (steps ++ step) (place + length piece) pieces (one_more Fine steps (Wrote side place piece) h (each (piece ∷ [])))
-      (λ others. subst Fine (sym (append_assoc steps step (poured side (place + length piece) others))) (each (piece ∷ others))))
+  all_poured : (steps : List Event) (live_side : ℕ) (pieces : List (List ℕ)) → AllPrefixes Fine steps → ((others : List (List ℕ)) → Fine (steps ++ text_writes side live_side others)) → AllPrefixes Fine (steps ++ text_writes side live_side pieces)
+  all_poured steps live_side [] h each = subst (λ l. AllPrefixes Fine l) (sym (append-nil steps)) h
+  all_poured steps live_side (piece ∷ pieces) h each =
+      let step : List Event = Wrote side live_side piece ∷ [] in
+      subst (λ l. AllPrefixes Fine l) (append_assoc steps step (text_writes side (live_side + length piece) pieces))
+      (all_poured (steps ++ step) (live_side + length piece) pieces (one_more Fine steps (Wrote side live_side piece) h (each (piece ∷ [])))
+      (λ others. subst Fine (sym (append_assoc steps step (text_writes side (live_side + length piece) others))) (each (piece ∷ others))))
 
-  filled : (unshut : Bool) (pieces : List (List ℕ)) → IsSeen unshut → UpTo unshut (Filling pieces)
-  filled unshut pieces saw = all_poured (emptying side unshut) 1 pieces (emptied unshut saw) (λ others. fine unshut (Filling others) saw tt)
+  filled : (to_close : Bool) (pieces : List (List ℕ)) → IsSeen to_close → UpTo to_close (Filling pieces)
+  filled to_close pieces saw = all_poured (emptying side to_close) 1 pieces (emptied to_close saw) (λ others. fine to_close (Filling others) saw tt)
 
-  module _ (unshut : Bool) (pieces : List (List ℕ)) (saw : IsSeen unshut) (may : MayCome unshut text (Filled pieces)) where
-    settled : UpTo unshut (Filled pieces)
-    settled = further unshut (Filling pieces) (Filled pieces) (Synced side) saw may refl (filled unshut pieces saw)
+  module _ (to_close : Bool) (pieces : List (List ℕ)) (saw : IsSeen to_close) (may : MayCome to_close text (Filled pieces)) where
+    settled : UpTo to_close (Filled pieces)
+    settled = further to_close (Filling pieces) (Filled pieces) (Synced side) saw may refl (filled to_close pieces saw)
 
-    raising : (byte : ℕ) → UpTo unshut (Raising pieces byte)
+    raising : (byte : ℕ) → UpTo to_close (Raising pieces byte)
     raising byte =
-        further unshut (Filled pieces) (Raising pieces byte) (Wrote side 0 (byte ∷ [])) saw may
-        (append_assoc (filling side unshut pieces) (Synced side ∷ []) (Wrote side 0 (byte ∷ []) ∷ [])) settled
+        further to_close (Filled pieces) (Raising pieces byte) (Wrote side 0 (byte ∷ [])) saw may
+        (append_assoc (filling side to_close pieces) (Synced side ∷ []) (Wrote side 0 (byte ∷ []) ∷ [])) settled
 
-    in_use : UpTo unshut (InUse pieces)
+    in_use : UpTo to_close (InUse pieces)
     in_use =
-        further unshut (Raising pieces 165) (InUse pieces) (Synced side) saw may
-        (append_assoc (filling side unshut pieces) (Synced side ∷ Wrote side 0 (165 ∷ []) ∷ []) (Synced side ∷ [])) (raising 165)
+        further to_close (Raising pieces 165) (InUse pieces) (Synced side) saw may
+        (append_assoc (filling side to_close pieces) (Synced side ∷ Wrote side 0 (165 ∷ []) ∷ []) (Synced side ∷ [])) (raising 165)
 
-  prefixes : (unshut : Bool) (far : Come) → IsSeen unshut → MayCome unshut text far → UpTo unshut far
-  prefixes unshut Untouched saw may = fine unshut Untouched saw tt
-  prefixes unshut (Closing byte) saw may = closing unshut byte saw may
-  prefixes unshut Closed saw may = closed unshut saw
-  prefixes unshut Cutting saw may = cutting unshut saw
-  prefixes unshut Emptied saw may = emptied unshut saw
-  prefixes unshut (Filling pieces) saw may = filled unshut pieces saw
-  prefixes unshut (Filled pieces) saw may = settled unshut pieces saw may
-  prefixes unshut (Raising pieces byte) saw may = raising unshut pieces saw may byte
-  prefixes unshut (InUse pieces) saw may = in_use unshut pieces saw may
+  prefixes : (to_close : Bool) (far : Come) → IsSeen to_close → MayCome to_close text far → UpTo to_close far
+  prefixes to_close Untouched saw may = fine to_close Untouched saw tt
+  prefixes to_close (Closing byte) saw may = closing to_close byte saw may
+  prefixes to_close Closed saw may = closed to_close saw
+  prefixes to_close Cutting saw may = cutting to_close saw
+  prefixes to_close Emptied saw may = emptied to_close saw
+  prefixes to_close (Filling pieces) saw may = filled to_close pieces saw
+  prefixes to_close (Filled pieces) saw may = settled to_close pieces saw may
+  prefixes to_close (Raising pieces byte) saw may = raising to_close pieces saw may byte
+  prefixes to_close (InUse pieces) saw may = in_use to_close pieces saw may
 
-  all_prefixes : (unshut : Bool) (far : Come) (more : List Event) → IsSeen unshut → MayCome unshut text far → (more ≡ []) ⊎ (more ≡ Missed side ∷ []) → AllPrefixes Fine (come_steps side unshut far ++ more)
-  all_prefixes unshut far more saw may (inl e) = subst (λ l. AllPrefixes Fine l) (sym (append-nil (come_steps side unshut far)) ∙ ap (λ l. come_steps side unshut far ++ l) (sym e)) (prefixes unshut far saw may)
-  all_prefixes unshut far more saw may (inr e) =
-      subst (λ l. AllPrefixes Fine (come_steps side unshut far ++ l)) (sym e)
-      (one_more Fine (come_steps side unshut far) (Missed side) (prefixes unshut far saw may) (missed (come_steps side unshut far) (fine unshut far saw may)))
+  all_prefixes : (to_close : Bool) (far : Come) (more : List Event) → IsSeen to_close → MayCome to_close text far → (more ≡ []) ⊎ (more ≡ Missed side ∷ []) → AllPrefixes Fine (come_steps side to_close far ++ more)
+  all_prefixes to_close far more saw may (inl e) = subst (λ l. AllPrefixes Fine l) (sym (append-nil (come_steps side to_close far)) ∙ ap (λ l. come_steps side to_close far ++ l) (sym e)) (prefixes to_close far saw may)
+  all_prefixes to_close far more saw may (inr e) =
+      subst (λ l. AllPrefixes Fine (come_steps side to_close far ++ l)) (sym e)
+      (one_more Fine (come_steps side to_close far) (Missed side) (prefixes to_close far saw may) (missed (come_steps side to_close far) (fine to_close far saw may)))
 
   few : (result : Result (Unit {0}) CompactFault) (far : Come) (more : List Event) → Ends side result far more → (more ≡ []) ⊎ (more ≡ Missed side ∷ [])
   few (Ok u) far more h = inl h.1
@@ -122,16 +122,16 @@ module _ (trace : List Event) (j : Journal) (rs ps : List Record) (packed : List
   few (Err faults.Stopped) far more h = inl h
 
   -- after Ok
-  used : (unshut : Bool) (far : Come) → IsSeen unshut → MayCome unshut text far → IsInUse far → (a b : List ℕ) → ArePossible (trace ++ come_steps side unshut far) a b → IsOn side a b ps
-  used unshut Untouched saw may h = absurd h
-  used unshut (Closing byte) saw may h = absurd h
-  used unshut Closed saw may h = absurd h
-  used unshut Cutting saw may h = absurd h
-  used unshut Emptied saw may h = absurd h
-  used unshut (Filling pieces) saw may h = absurd h
-  used unshut (Filled pieces) saw may h = absurd h
-  used unshut (Raising pieces byte) saw may h = absurd h
-  used unshut (InUse pieces) saw may h = λ a b possible. come_images trace j rs ps packed at of' are below unshut (InUse pieces) saw may a b possible
+  used : (to_close : Bool) (far : Come) → IsSeen to_close → MayCome to_close text far → IsInUse far → (a b : List ℕ) → ArePossible (trace ++ come_steps side to_close far) a b → IsOn side a b ps
+  used to_close Untouched saw may h = absurd h
+  used to_close (Closing byte) saw may h = absurd h
+  used to_close Closed saw may h = absurd h
+  used to_close Cutting saw may h = absurd h
+  used to_close Emptied saw may h = absurd h
+  used to_close (Filling pieces) saw may h = absurd h
+  used to_close (Filled pieces) saw may h = absurd h
+  used to_close (Raising pieces byte) saw may h = absurd h
+  used to_close (InUse pieces) saw may h = λ a b possible. come_images trace j rs ps packed at of' are below to_close (InUse pieces) saw may a b possible
 
   pub shifts : (steps : List Event) (result : Result (Unit {0}) CompactFault) → Compacts trace steps j packed result → Shifts trace steps (side_of j) rs ps result
   shifts steps result c = record {
@@ -142,7 +142,7 @@ module _ (trace : List Event) (j : Journal) (rs ps : List Record) (packed : List
       by : (result : Result (Unit {0}) CompactFault) → Ends side result c.far c.more → OnOk result ((a b : List ℕ) → ArePossible (trace ++ steps) a b → IsOn side a b ps)
       by (Ok u) ends = λ a b possible.
           used _ c.far refl c.may ends.0 a b
-          (subst (λ l. ArePossible (trace ++ l) a b) (c.steps_are ∙ ap (λ l. come_steps side (is_unshut (disk side trace).reads) c.far ++ l) ends.1 ∙ append-nil _) possible)
+          (subst (λ l. ArePossible (trace ++ l) a b) (c.steps_are ∙ ap (λ l. come_steps side (lacks_closed_gate (disk side trace).reads) c.far ++ l) ends.1 ∙ append-nil _) possible)
       by (Err fault) ends = tt
 
   -- the journal after it
@@ -153,28 +153,28 @@ module _ (trace : List Event) (j : Journal) (rs ps : List Record) (packed : List
     abbrev Stands : List Event → Type 0
     Stands now = IsAt now k ps × HasEpoch now k
 
-    pub stands_now : (unshut : Bool) (far : Come) → IsSeen unshut → MayCome unshut text far → IsInUse far → Stands (trace ++ come_steps side unshut far)
-    stands_now unshut Untouched saw may h = absurd h
-    stands_now unshut (Closing byte) saw may h = absurd h
-    stands_now unshut Closed saw may h = absurd h
-    stands_now unshut Cutting saw may h = absurd h
-    stands_now unshut Emptied saw may h = absurd h
-    stands_now unshut (Filling pieces) saw may h = absurd h
-    stands_now unshut (Filled pieces) saw may h = absurd h
-    stands_now unshut (Raising pieces byte) saw may h = absurd h
-    stands_now unshut (InUse pieces) saw may h = (
+    pub stands_now : (to_close : Bool) (far : Come) → IsSeen to_close → MayCome to_close text far → IsInUse far → Stands (trace ++ come_steps side to_close far)
+    stands_now to_close Untouched saw may h = absurd h
+    stands_now to_close (Closing byte) saw may h = absurd h
+    stands_now to_close Closed saw may h = absurd h
+    stands_now to_close Cutting saw may h = absurd h
+    stands_now to_close Emptied saw may h = absurd h
+    stands_now to_close (Filling pieces) saw may h = absurd h
+    stands_now to_close (Filled pieces) saw may h = absurd h
+    stands_now to_close (Raising pieces byte) saw may h = absurd h
+    stands_now to_close (InUse pieces) saw may h = (
       record {
-        opened = subst (λ s. Opened (trace ++ come_steps side unshut (InUse pieces)) s ps) (sym side_is) (stands_there trace j rs ps packed at of' are below unshut pieces saw may);
+        opened = subst (λ s. Opened (trace ++ come_steps side to_close (InUse pieces)) s ps) (sym side_is) (stands_there trace j rs ps packed at of' are below to_close pieces saw may);
         gate = gate_is;
       },
       record {
         epoch = le 8 (epoch_of j + 1);
-        headed = subst (λ s. head (disk s (trace ++ come_steps side unshut (InUse pieces))).reads ≡ Headed (le 8 (epoch_of j + 1))) (sym side_is) (head_there trace j rs ps packed at of' are below unshut pieces saw may);
+        headed = subst (λ s. head (disk s (trace ++ come_steps side to_close (InUse pieces))).reads ≡ Headed (le 8 (epoch_of j + 1))) (sym side_is) (head_there trace j rs ps packed at of' are below to_close pieces saw may);
         number_is = number_next (epoch_of j) below ∙ sym epoch_is;
       },
     )
 
     pub stands_after : (steps : List Event) (u : Unit {0}) → Compacts trace steps j packed (Ok u) → Stands (trace ++ steps)
     stands_after steps u c =
-        subst (λ l. Stands (trace ++ l)) (sym (c.steps_are ∙ ap (λ l. come_steps side (is_unshut (disk side trace).reads) c.far ++ l) c.ends.1 ∙ append-nil _))
+        subst (λ l. Stands (trace ++ l)) (sym (c.steps_are ∙ ap (λ l. come_steps side (lacks_closed_gate (disk side trace).reads) c.far ++ l) c.ends.1 ∙ append-nil _))
         (stands_now _ c.far refl c.may c.ends.0)

@@ -17,7 +17,7 @@ use Rattle.journal_model.specs.Appends.{Rests, All, added}
 use Rattle.journal_model.proofs.Runs.{run_disk}
 use Rattle.journal_model.proofs.Syncs.{live_back, headed_bytes}
 use Rattle.journal_model.proofs.Making.{heads_blank}
-use Rattle.journal_disk.specs.declared.heads.Place.TheVariants as places
+use Rattle.journal_disk.specs.declared.heads.LiveSide.TheVariants as places
 use Rattle.journal_disk.specs.declared.fault.OpenFault.{OpenFault}
 use Rattle.journal_disk.specs.declared.fault.AppendFault.{AppendFault}
 use Rattle.journal_disk.specs.declared.journal.Journal.{Journal}

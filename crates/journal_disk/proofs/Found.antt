@@ -19,7 +19,7 @@ use Rattle.journal_model.proofs.Traces.{disk_more}
 use Rattle.journal_model.proofs.Runs.{run_images}
 use Rattle.journal_model.proofs.Syncs.{opened_from}
 use Rattle.journal_model.proofs.Making.{short_closed, closed_header, header_rests, heads_blank, open_not_blank}
-use Rattle.journal_disk.specs.declared.heads.Place.TheVariants as places
+use Rattle.journal_disk.specs.declared.heads.LiveSide.TheVariants as places
 use Rattle.journal_disk.specs.declared.fault.OpenFault.{OpenFault}
 use Rattle.journal_disk.specs.declared.fault.OpenFault.TheVariants as faults
 use Rattle.journal_disk.specs.declared.journal.Journal.{Journal}

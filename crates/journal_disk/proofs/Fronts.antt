@@ -13,8 +13,8 @@ use Rattle.plant.specs.declared.step.Side.TheVariants.{A, B}
 use Rattle.journal_model.specs.Journals.{magic, Blank, Foreign, Headed, head, live}
 use Rattle.journal_disk.specs.Heads.{seen_live}
 use Rattle.journal_disk.specs.Seen.{AreSeen}
-use Rattle.journal_disk.specs.declared.heads.Place.{Place}
-use Rattle.journal_disk.specs.declared.heads.Place.TheVariants as places
+use Rattle.journal_disk.specs.declared.heads.LiveSide.{LiveSide}
+use Rattle.journal_disk.specs.declared.heads.LiveSide.TheVariants as places
 use Rattle.journal_disk.specs.declared.sides.Sides.{Sides}
 
 -- A HEAD IS THAT OF THE FRONT
@@ -71,20 +71,20 @@ pub before : (P : Told → Type 0) (old new : Option Told) → new ≡ old → I
 before P old new same h = subst (λ (o : Option Told). IfSome o P) same h
 
 -- the bytes of the one side that is live
-pub on_one : (place : Place) (live : Side) (bytes a b : List ℕ) → place ≡ places.On live → bytes ≡ of_side live a b → (side : Side) → place ≡ places.On side → bytes ≡ of_side side a b
-on_one place live bytes a b on is side here = is ∙ ap (λ s. of_side s a b) (one live side (sym on ∙ here))
+pub on_one : (live_side : LiveSide) (live : Side) (bytes a b : List ℕ) → live_side ≡ places.On live → bytes ≡ of_side live a b → (side : Side) → live_side ≡ places.On side → bytes ≡ of_side side a b
+on_one live_side live bytes a b on is side here = is ∙ ap (λ s. of_side s a b) (one live side (sym on ∙ here))
   where
     one : (x y : Side) → places.On x ≡ places.On y → x ≡ y
     one x y e = cc e
 
 -- THE SIDES, by the bytes of both: the front of each has its head
 pub seen_by : (told : Option Told) (sides : Sides) (a b fa fb : List ℕ) → IfSome told (λ t. (a ≡ (disk A t.trace).reads) × (b ≡ (disk B t.trace).reads)) → head fa ≡ head a → head fb ≡ head b
-    → nat_lt (length fa) 18 ≡ nat_lt (length a) 18 → sides.place ≡ seen_live (live (head fa) (head fb)) → sides.is_short ≡ nat_lt (length fa) 18 → ((side : Side) → sides.place ≡ places.On side → sides.live.items ≡ of_side side a b) → AreSeen told sides
-seen_by told sides a b fa fb reads on_a on_b short place is_short whole = record {
+    → nat_lt (length fa) 18 ≡ nat_lt (length a) 18 → sides.live_side ≡ seen_live (live (head fa) (head fb)) → sides.is_short ≡ nat_lt (length fa) 18 → ((side : Side) → sides.live_side ≡ places.On side → sides.live.items ≡ of_side side a b) → AreSeen told sides
+seen_by told sides a b fa fb reads on_a on_b short live_side is_short whole = record {
   a = a;
   b = b;
   reads = reads;
-  place = (λ i. seen_live (live (sym on_a i) (sym on_b i))) ∙ sym place;
+  live_side = (λ i. seen_live (live (sym on_a i) (sym on_b i))) ∙ sym live_side;
   is_short = is_short ∙ short;
   whole = whole;
 }
@@ -98,22 +98,22 @@ read_short bytes front is = ap (λ (l : List ℕ). nat_lt (length l) 18) (sym is
 
 -- THE SIDES AS AN OPENING READS THEM, by the front of each
 
-module _ (told : Option Told) (sides : Sides) (fa fb : List ℕ) (on_a : IfSome told (λ t. fa ≡ take 18 (disk A t.trace).reads)) (on_b : IfSome told (λ t. fb ≡ take 18 (disk B t.trace).reads)) (place : sides.place ≡ seen_live (live (head fa) (head fb))) (short : sides.is_short ≡ nat_lt (length fa) 18) where
+module _ (told : Option Told) (sides : Sides) (fa fb : List ℕ) (on_a : IfSome told (λ t. fa ≡ take 18 (disk A t.trace).reads)) (on_b : IfSome told (λ t. fb ≡ take 18 (disk B t.trace).reads)) (live_side : sides.live_side ≡ seen_live (live (head fa) (head fb))) (short : sides.is_short ≡ nat_lt (length fa) 18) where
   -- where none is live
-  pub none_seen : ((side : Side) → sides.place ≢ places.On side) → AreSeen told sides
+  pub none_seen : ((side : Side) → sides.live_side ≢ places.On side) → AreSeen told sides
   none_seen none =
       let a = whole_of told A fa in
       let b = whole_of told B fb in
-      seen_by told sides a b fa fb (both_read told a b (whole_reads told A fa) (whole_reads told B fb)) (whole_head told A fa on_a) (whole_head told B fb on_b) (whole_short told A fa on_a) place short (λ side here. absurd (none side here))
+      seen_by told sides a b fa fb (both_read told a b (whole_reads told A fa) (whole_reads told B fb)) (whole_head told A fa on_a) (whole_head told B fb on_b) (whole_short told A fa on_a) live_side short (λ side here. absurd (none side here))
 
   -- where one is live, which is read whole
-  pub live_seen : (side : Side) (bytes : List ℕ) → IfSome told (λ t. bytes ≡ (disk side t.trace).reads) → take 18 bytes ≡ of_side side fa fb → sides.place ≡ places.On side → sides.live.items ≡ bytes → AreSeen told sides
+  pub live_seen : (side : Side) (bytes : List ℕ) → IfSome told (λ t. bytes ≡ (disk side t.trace).reads) → take 18 bytes ≡ of_side side fa fb → sides.live_side ≡ places.On side → sides.live.items ≡ bytes → AreSeen told sides
   live_seen A bytes reads front on is =
       let b = whole_of told B fb in
-      seen_by told sides bytes b fa fb (both_read told bytes b reads (whole_reads told B fb)) (read_head bytes fa front) (whole_head told B fb on_b) (read_short bytes fa front) place short (on_one sides.place A sides.live.items bytes b on is)
+      seen_by told sides bytes b fa fb (both_read told bytes b reads (whole_reads told B fb)) (read_head bytes fa front) (whole_head told B fb on_b) (read_short bytes fa front) live_side short (on_one sides.live_side A sides.live.items bytes b on is)
   live_seen B bytes reads front on is =
       let a = whole_of told A fa in
-      seen_by told sides a bytes fa fb (both_read told a bytes (whole_reads told A fa) reads) (whole_head told A fa on_a) (read_head bytes fb front) (whole_short told A fa on_a) place short (on_one sides.place B sides.live.items a bytes on is)
+      seen_by told sides a bytes fa fb (both_read told a bytes (whole_reads told A fa) reads) (whole_head told A fa on_a) (read_head bytes fb front) (whole_short told A fa on_a) live_side short (on_one sides.live_side B sides.live.items a bytes on is)
 
 -- what holds of each side's own
 pub on_either : {X : Type 0} (P : Side → X → Type 0) (side : Side) (a b : X) → P A a → P B b → P side (of_side side a b)
@@ -124,7 +124,7 @@ pub either_of : {X Y : Type 0} (f : X → Y) (side : Side) (a b : X) → f (of_s
 either_of f A a b = refl
 either_of f B a b = refl
 
--- so many bytes more behind those that were read
+-- so many bytes more after those that were read
 pub read_on : (old now : Option Told) (side : Side) (bytes more : List ℕ) (done size all : ℕ) → now ≡ old → all ≡ done + size → IfSome old (λ t. bytes ≡ take done (disk side t.trace).reads)
     → IfSome now (λ t. more ≡ bytes ++ take size (drop done (disk side t.trace).reads)) → IfSome old (λ t. more ≡ take all (disk side t.trace).reads)
 read_on None now side bytes more done size all same long was read = tt

@@ -15,7 +15,7 @@ pub mod CompactImages
 mod CompactMoments
 mod Leaving
 mod EpochLaws
-mod PourLaws
+mod WriteTextLaws
 mod CompactExits
 mod Beginnings
 pub mod LastSteps

@@ -22,7 +22,7 @@ use Rattle.journal_model.proofs.Making.{heads_blank}
 use Rattle.journal_disk.specs.declared.fault.OpenFault.{OpenFault}
 use Rattle.journal_disk.specs.declared.fault.OpenFault.TheVariants as faults
 use Rattle.journal_disk.specs.declared.journal.Journal.{Journal}
-use Rattle.journal_disk.specs.declared.heads.Place.TheVariants as places
+use Rattle.journal_disk.specs.declared.heads.LiveSide.TheVariants as places
 use Rattle.journal_disk.specs.Heads.{seen_live}
 use Rattle.journal_disk.specs.Openings.{IsOpened}
 use Rattle.journal_disk.specs.Faults.{open_fault}
@@ -124,23 +124,23 @@ reads_exit T old one new side result faults.Memory first h answer = exit_early o
 module _ (old three new : Option Told) (a b : List ℕ) (seen_so : Saw old a b) (first : three ≡ with_steps old both_synced) where
   pub made_exit : (is_short : Bool) (result : Result (Journal × Vec Found) OpenFault) (fault : Fault) → seen_live (live (head a) (head b)) ≡ places.New → is_short ≡ nat_lt (length a) 18
       → Makes is_short InUse three new (Err fault) → result ≡ Err (open_fault fault) → OpenedBy old new result
-  made_exit is_short result fault place short m answer =
-      exit old new result a b (Making is_short m.far) m.more seen_so (chain old three new both_synced _ _ first m.trace refl) (new_live (live (head a) (head b)) place, short, m.may)
+  made_exit is_short result fault live_side short m answer =
+      exit old new result a b (Making is_short m.far) m.more seen_so (chain old three new both_synced _ _ first m.trace refl) (new_live (live (head a) (head b)) live_side, short, m.may)
       (subst (λ (r : Result (Journal × Vec Found) OpenFault). Ends r a b (Making is_short m.far) m.more) (sym answer) (plant_ends fault A (Making is_short m.far) m.more m.ends a b))
 
   pub new_exit : (is_short : Bool) (opened : Journal × Vec Found) → seen_live (live (head a) (head b)) ≡ places.New → is_short ≡ nat_lt (length a) 18
       → new ≡ with_steps three (making is_short) → OpenedBy old new (Ok opened)
-  new_exit is_short opened place short is =
-      exit old new (Ok opened) a b (Making is_short InUse) [] seen_so (chain old three new both_synced (making is_short) _ first is (sym (append-nil _))) (new_live (live (head a) (head b)) place, short, tt)
-      ((λ i. both_synced ++ new_journal (sym (new_live (live (head a) (head b)) place) i) (short i)), refl)
+  new_exit is_short opened live_side short is =
+      exit old new (Ok opened) a b (Making is_short InUse) [] seen_so (chain old three new both_synced (making is_short) _ first is (sym (append-nil _))) (new_live (live (head a) (head b)) live_side, short, tt)
+      ((λ i. both_synced ++ new_journal (sym (new_live (live (head a) (head b)) live_side) i) (short i)), refl)
 
   pub on_exit : (side : Side) (limit : ℕ) (result : Result (Journal × Vec Found) OpenFault) → seen_live (live (head a) (head b)) ≡ places.On side → IsOpened side limit (of_side side a b) result → OpenedBy old three result
-  on_exit side limit (Ok opened) place is =
-      exit old three (Ok opened) a b BothSynced [] seen_so first tt ((λ i. both_synced ++ new_journal (sym (on_live (live (head a) (head b)) side place) i) (nat_lt (length a) 18)), refl)
-  on_exit side limit (Err (faults.Bad s at)) place is = exit_early old three (Err (faults.Bad s at)) (faults.Bad s at) BothSynced [] refl first tt (λ a b. (refl, refl))
-  on_exit side limit (Err faults.Memory) place is = exit_early old three (Err faults.Memory) faults.Memory BothSynced [] refl first tt (λ a b. (refl, refl))
-  on_exit side limit (Err faults.Plant) place is = absurd is
-  on_exit side limit (Err faults.Stopped) place is = absurd is
+  on_exit side limit (Ok opened) live_side is =
+      exit old three (Ok opened) a b BothSynced [] seen_so first tt ((λ i. both_synced ++ new_journal (sym (on_live (live (head a) (head b)) side live_side) i) (nat_lt (length a) 18)), refl)
+  on_exit side limit (Err (faults.Bad s at)) live_side is = exit_early old three (Err (faults.Bad s at)) (faults.Bad s at) BothSynced [] refl first tt (λ a b. (refl, refl))
+  on_exit side limit (Err faults.Memory) live_side is = exit_early old three (Err faults.Memory) faults.Memory BothSynced [] refl first tt (λ a b. (refl, refl))
+  on_exit side limit (Err faults.Plant) live_side is = absurd is
+  on_exit side limit (Err faults.Stopped) live_side is = absurd is
 
 pub wrong_exit : (old three : Option Told) (side : Side) (at : ℕ) → three ≡ with_steps old both_synced → OpenedBy old three (Err (faults.Bad side at))
 wrong_exit old three side at first = exit_early old three (Err (faults.Bad side at)) (faults.Bad side at) BothSynced [] refl first tt (λ a b. (refl, refl))

@@ -5,7 +5,7 @@ use Rattle.plant.specs.declared.step.Side.TheVariants.{A, B}
 use Rattle.plant.specs.Sides.{of_side}
 use Rattle.journal_model.specs.Journals.{Head, Blank, Foreign, Headed, head, Live, New, On, Wrong, live}
 use Rattle.journal_model.proofs.Syncs.{live_back, headed_long}
-use Rattle.journal_disk.specs.declared.heads.Place.TheVariants as places
+use Rattle.journal_disk.specs.declared.heads.LiveSide.TheVariants as places
 use Rattle.journal_disk.specs.Heads.{seen, seen_live, place_of}
 
 chosen : (t u : Bool) → (if t then places.Wrong A else if u then places.On A else places.On B) ≡ seen_live (if t then Wrong A else if u then On A else On B)

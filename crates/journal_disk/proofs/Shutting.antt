@@ -1,4 +1,4 @@
--- A side with a durable closed gate at its front, whatever is written behind it.
+-- A side with a durable closed gate at its front, whatever is written after it.
 use Rattle.std.proofs.Common.{◌≡◌, ◌≢◌, inl, inr, ℕ, zero, suc, ◌+◌, ◌≤◌, Bool, true, false, List, [], ◌∷◌, ◌++◌, length, take, drop, refl, sym, ap, ◌∙◌, subst, arith, append_assoc, length-append}
 use Rattle.std.specs.List.{flat_map}
 use Rattle.std.proofs.lemmas.Bool.{eqb-false}
@@ -8,7 +8,7 @@ use Rattle.plant.specs.Disks.{Disk, put, wrote, synced, shortened, at_once, IsIm
 use Rattle.journal_model.specs.Journals.{Blank, head}
 use Rattle.journal_model.proofs.Images.{front_kept}
 use Rattle.journal_model.proofs.Making.{begins}
-use Rattle.journal_disk.specs.Compacting.{is_unshut}
+use Rattle.journal_disk.specs.Compacting.{lacks_closed_gate}
 
 pub record Shut (d : Disk) : Type 0 where
   pub gate : ℕ
@@ -63,10 +63,10 @@ poured_on d at [] = d
 poured_on d at (piece ∷ pieces) = poured_on (wrote d at piece) (at + length piece) pieces
 
 abbrev pub emptied_on : Disk → Bool → Disk
-emptied_on d unshut = synced (shortened (shut_on d unshut) 1)
+emptied_on d to_close = synced (shortened (shut_on d to_close) 1)
 
 -- its gate is closed
-pub shut_at : (bytes : List ℕ) (unshut : Bool) → unshut ≡ is_unshut bytes → Shut (shut_on (at_once bytes) unshut)
+pub shut_at : (bytes : List ℕ) (to_close : Bool) → to_close ≡ lacks_closed_gate bytes → Shut (shut_on (at_once bytes) to_close)
 shut_at bytes true is = shut_once 0 (drop 1 bytes) (λ e. cc e)
 shut_at [] false is = absurd (cc is)
 shut_at (gate ∷ bytes) false is = shut_once gate bytes (eqb-false gate 165 (sym is))

@@ -14,7 +14,7 @@ use Rattle.journal_rec.specs.Packing.{block}
 use Rattle.journal_model.specs.Journals.{size, Reads, Breaks, Broken, no_length, cut_off, no_record, gate_after}
 use Rattle.journal_disk.specs.Walks.{placed}
 
--- the records up to a gate, with what is behind it
+-- the records up to a gate, with what is after it
 pub record SoFar (bytes : List ℕ) (gate : ℕ) (rs : List Record) (found : List Found) : Type 0 where
   pub reads : (ss : List Record) → Reads (drop gate bytes) ss → Reads (drop 17 bytes) (rs ++ ss)
   pub breaks : (ss : List Record) → Breaks (drop gate bytes) ss → Breaks (drop 17 bytes) (rs ++ ss)
@@ -44,7 +44,7 @@ goes_on bytes gate rs found r n so is_r size_is here =
       placed_so = (λ i. so.placed_so i ++ record { at = so.at i; entry = r } ∷ []) ∙ sym (placed_push 17 rs r);
     }
 
--- behind a closed gate there is nothing, and behind one that is broken the records end
+-- behind a closed gate there is nothing, and after one that is broken the records end
 pub closes : (bytes : List ℕ) (gate : ℕ) (rs : List Record) (found : List Found) → SoFar bytes gate rs found → (g : ℕ) × (rest : List ℕ) × (drop gate bytes ≡ g ∷ rest) × (g ≢ 165) → Reads (drop 17 bytes) rs
 closes bytes gate rs found so h = subst (λ (l : List Record). Reads (drop 17 bytes) l) (append-nil rs) (so.reads [] h)
 

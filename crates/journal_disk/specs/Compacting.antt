@@ -15,9 +15,9 @@ abbrev pub side_text : ℕ → List ℕ → List ℕ
 side_text epoch packed = magic ++ le 8 epoch ++ packed
 
 -- a side has no closed gate at its front: it has no byte, or its first one is an open gate
-abbrev pub is_unshut : List ℕ → Bool
-is_unshut [] = true
-is_unshut (gate ∷ bytes) = gate == 165
+abbrev pub lacks_closed_gate : List ℕ → Bool
+lacks_closed_gate [] = true
+lacks_closed_gate (gate ∷ bytes) = gate == 165
 
 -- each has 65,536 bytes but the last, which has some and at most so many
 abbrev pub AreFull : List (List ℕ) → Type 0
@@ -25,16 +25,16 @@ AreFull [] = Unit {0}
 AreFull (last ∷ []) = (0 < length last) × (length last ≤ 65536)
 AreFull (piece ∷ next ∷ pieces) = (length piece ≡ 65536) × AreFull (next ∷ pieces)
 
--- the text in pieces of 65,536 bytes and a last one, which are written one behind the other
+-- the text in pieces of 65,536 bytes and a last one, which are written one after the other
 pub record ArePieces (text : List ℕ) (pieces : List (List ℕ)) : Type 0 where
   pub whole : flat_map (λ piece. piece) pieces ≡ text
   pub full : AreFull pieces
 
-abbrev pub poured : Side → ℕ → List (List ℕ) → List Event
-poured side at [] = []
-poured side at (piece ∷ pieces) = Wrote side at piece ∷ poured side (at + length piece) pieces
+abbrev pub text_writes : Side → ℕ → List (List ℕ) → List Event
+text_writes side at [] = []
+text_writes side at (piece ∷ pieces) = Wrote side at piece ∷ text_writes side (at + length piece) pieces
 
--- How far a journal came on the other side: not yet; any byte as the gate of a side without a closed one; its closed gate, synced; cut behind
+-- How far a journal came on the other side: not yet; any byte as the gate of a side without a closed one; its closed gate, synced; cut after
 -- it; that synced; pieces behind the gate; the whole text, synced; any byte as the gate; the open gate, synced.
 pub data Come : Type 0 where
   Untouched : Come
@@ -54,30 +54,30 @@ shutting side false = []
 
 -- the side is cut behind its gate
 abbrev pub emptying : Side → Bool → List Event
-emptying side unshut = shutting side unshut ++ Cut side 1 ∷ Synced side ∷ []
+emptying side to_close = shutting side to_close ++ Cut side 1 ∷ Synced side ∷ []
 
 -- the text is written behind the closed gate
 abbrev pub filling : Side → Bool → List (List ℕ) → List Event
-filling side unshut pieces = emptying side unshut ++ poured side 1 pieces
+filling side to_close pieces = emptying side to_close ++ text_writes side 1 pieces
 
 abbrev pub come_steps : Side → Bool → Come → List Event
-come_steps side unshut Untouched = []
-come_steps side unshut (Closing byte) = Wrote side 0 (byte ∷ []) ∷ []
-come_steps side unshut Closed = shutting side unshut
-come_steps side unshut Cutting = shutting side unshut ++ Cut side 1 ∷ []
-come_steps side unshut Emptied = emptying side unshut
-come_steps side unshut (Filling pieces) = filling side unshut pieces
-come_steps side unshut (Filled pieces) = filling side unshut pieces ++ Synced side ∷ []
-come_steps side unshut (Raising pieces byte) = filling side unshut pieces ++ Synced side ∷ Wrote side 0 (byte ∷ []) ∷ []
-come_steps side unshut (InUse pieces) = filling side unshut pieces ++ Synced side ∷ Wrote side 0 (165 ∷ []) ∷ Synced side ∷ []
+come_steps side to_close Untouched = []
+come_steps side to_close (Closing byte) = Wrote side 0 (byte ∷ []) ∷ []
+come_steps side to_close Closed = shutting side to_close
+come_steps side to_close Cutting = shutting side to_close ++ Cut side 1 ∷ []
+come_steps side to_close Emptied = emptying side to_close
+come_steps side to_close (Filling pieces) = filling side to_close pieces
+come_steps side to_close (Filled pieces) = filling side to_close pieces ++ Synced side ∷ []
+come_steps side to_close (Raising pieces byte) = filling side to_close pieces ++ Synced side ∷ Wrote side 0 (byte ∷ []) ∷ []
+come_steps side to_close (InUse pieces) = filling side to_close pieces ++ Synced side ∷ Wrote side 0 (165 ∷ []) ∷ Synced side ∷ []
 
 -- a gate is closed only where none is, and what is synced is the text
 abbrev pub MayCome : Bool → List ℕ → Come → Type 0
-MayCome unshut text (Closing byte) = unshut ≡ true
-MayCome unshut text (Filled pieces) = ArePieces text pieces
-MayCome unshut text (Raising pieces byte) = ArePieces text pieces
-MayCome unshut text (InUse pieces) = ArePieces text pieces
-MayCome unshut text far = Unit {0}
+MayCome to_close text (Closing byte) = to_close ≡ true
+MayCome to_close text (Filled pieces) = ArePieces text pieces
+MayCome to_close text (Raising pieces byte) = ArePieces text pieces
+MayCome to_close text (InUse pieces) = ArePieces text pieces
+MayCome to_close text far = Unit {0}
 
 -- a beginning of a text
 abbrev pub Begins : List ℕ → List ℕ → Type 0
@@ -105,25 +105,25 @@ IsInUse (InUse pieces) = Unit {0}
 IsInUse far = ⊥
 
 -- so far it came with that text since then, until a call failed or the plant stopped
-pub record Leaves (side : Side) (unshut : Bool) (text : List ℕ) (base new : Option Told) (fault : Fault) : Type 0 where
+pub record Leaves (side : Side) (to_close : Bool) (text : List ℕ) (base new : Option Told) (fault : Fault) : Type 0 where
   pub far : Come
-  pub may : MayCome unshut text far
+  pub may : MayCome to_close text far
   pub more : List Event
-  pub trace : new ≡ with_steps base (come_steps side unshut far ++ more)
+  pub trace : new ≡ with_steps base (come_steps side to_close far ++ more)
   pub last : IsLast side fault more
   pub meant : IsMeant text fault far
 
 abbrev pub BreaksOff : Side → Bool → List ℕ → Option Told → Option Told → Result (Unit {0}) Fault → Type 0
-BreaksOff side unshut text base new (Ok done) = Unit {0}
-BreaksOff side unshut text base new (Err fault) = Leaves side unshut text base new fault
+BreaksOff side to_close text base new (Ok done) = Unit {0}
+BreaksOff side to_close text base new (Err fault) = Leaves side to_close text base new fault
 
 -- bytes were written from there on, in pieces: all of them after Ok, and else a beginning
-abbrev pub PourEnds : Side → List ℕ → Result (Unit {0}) Fault → List (List ℕ) → List Event → Type 0
-PourEnds side bytes (Ok done) pieces more = ArePieces bytes pieces × (more ≡ [])
-PourEnds side bytes (Err fault) pieces more = IsLast side fault more × AreBegun bytes fault pieces
+abbrev pub WriteEnds : Side → List ℕ → Result (Unit {0}) Fault → List (List ℕ) → List Event → Type 0
+WriteEnds side bytes (Ok done) pieces more = ArePieces bytes pieces × (more ≡ [])
+WriteEnds side bytes (Err fault) pieces more = IsLast side fault more × AreBegun bytes fault pieces
 
-pub record Pours (side : Side) (at : ℕ) (bytes : List ℕ) (old new : Option Told) (result : Result (Unit {0}) Fault) : Type 0 where
+pub record WritesText (side : Side) (at : ℕ) (bytes : List ℕ) (old new : Option Told) (result : Result (Unit {0}) Fault) : Type 0 where
   pub pieces : List (List ℕ)
   pub more : List Event
-  pub trace : new ≡ with_steps old (poured side at pieces ++ more)
-  pub ends : PourEnds side bytes result pieces more
+  pub trace : new ≡ with_steps old (text_writes side at pieces ++ more)
+  pub ends : WriteEnds side bytes result pieces more

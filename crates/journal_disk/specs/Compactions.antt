@@ -7,7 +7,7 @@ use Rattle.plant.specs.declared.device.Fault.{Fault}
 use Rattle.plant.specs.declared.step.Side.{Side}
 use Rattle.journal_rec.specs.declared.record.Record.{Record}
 use Rattle.journal_model.specs.Appends.{other_side, IsOn}
-use Rattle.journal_disk.specs.Compacting.{Come, is_unshut, side_text, come_steps, MayCome, IsMeant, IsInUse}
+use Rattle.journal_disk.specs.Compacting.{Come, lacks_closed_gate, side_text, come_steps, MayCome, IsMeant, IsInUse}
 use Rattle.journal_disk.specs.Reaching.{IsLast}
 use Rattle.journal_disk.specs.Epochs.{epoch_of}
 use Rattle.journal_disk.specs.Standing.{side_of}
@@ -21,12 +21,12 @@ MoveEnds side text (Ok done) far more = IsInUse far × (more ≡ [])
 MoveEnds side text (Err fault) far more = IsLast side fault more × IsMeant text fault far
 
 pub record MovesOver (side : Side) (text : List ℕ) (old new : Option Told) (result : Result (Unit {0}) Fault) : Type 0 where
-  pub unshut : Bool
-  pub was : IfSome old (λ t. unshut ≡ is_unshut (disk side t.trace).reads)
+  pub to_close : Bool
+  pub was : IfSome old (λ t. to_close ≡ lacks_closed_gate (disk side t.trace).reads)
   pub far : Come
-  pub may : MayCome unshut text far
+  pub may : MayCome to_close text far
   pub more : List Event
-  pub trace : new ≡ with_steps old (come_steps side unshut far ++ more)
+  pub trace : new ≡ with_steps old (come_steps side to_close far ++ more)
   pub ends : MoveEnds side text result far more
 
 -- WHAT A CALL OF compact ADDS, by its answer: the steps on the other side, with the text of the next epoch
@@ -37,16 +37,16 @@ Ends side (Err faults.Stopped) far more = more ≡ []
 
 pub record Compacts (trace steps : List Event) (j : Journal) (packed : List ℕ) (result : Result (Unit {0}) CompactFault) : Type 0 where
   pub far : Come
-  pub may : MayCome (is_unshut (disk (other_side (side_of j)) trace).reads) (side_text (epoch_of j + 1) packed) far
+  pub may : MayCome (lacks_closed_gate (disk (other_side (side_of j)) trace).reads) (side_text (epoch_of j + 1) packed) far
   pub more : List Event
-  pub steps_are : steps ≡ come_steps (other_side (side_of j)) (is_unshut (disk (other_side (side_of j)) trace).reads) far ++ more
+  pub steps_are : steps ≡ come_steps (other_side (side_of j)) (lacks_closed_gate (disk (other_side (side_of j)) trace).reads) far ++ more
   pub ends : Ends (other_side (side_of j)) result far more
 
 -- How a side reads that a text is moved onto: as it did; with its gate closed; with a beginning of the text behind a closed gate; or with
 -- the whole text behind the open one.
 pub data IsMoving (was text reads : List ℕ) : Type 0 where
   untouched : reads ≡ was → IsMoving was text reads
-  closed : is_unshut was ≡ true → reads ≡ 0 ∷ drop 1 was → IsMoving was text reads
+  closed : lacks_closed_gate was ≡ true → reads ≡ 0 ∷ drop 1 was → IsMoving was text reads
   begun : (gate n : ℕ) → gate ≢ 165 → reads ≡ gate ∷ take n text → IsMoving was text reads
   in_use : reads ≡ 165 ∷ text → IsMoving was text reads
 

@@ -23,7 +23,7 @@ abbrev pub placed : ℕ → List Record → List Found
 placed gate [] = []
 placed gate (r ∷ rs) = record { at = gate; entry = r } ∷ placed (gate + size r) rs
 
--- the records of a side with a header, or the first gate behind which there is none
+-- the records of a side with a header, or the first gate after which there is none
 abbrev pub IsWalk : List ℕ → Result Walked WalkFault → Type 0
 IsWalk bytes (Ok walk) = (rs : List Record) × Reads (drop 17 bytes) rs × (walk.found.items ≡ placed 17 rs) × (walk.gate ≡ gate_after rs) × (walk.gate < length bytes)
 IsWalk bytes (Err (stops.Bad at)) = (rs : List Record) × Breaks (drop 17 bytes) rs × (at ≡ gate_after rs)

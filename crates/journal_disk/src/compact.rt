@@ -12,10 +12,10 @@ ghost use Rattle.journal_disk.specs.Epochs.{epoch_of, HasEpoch};
 ghost use Rattle.journal_disk.specs.Compacting.{filling, side_text, ArePieces, BreaksOff};
 ghost use Rattle.journal_disk.specs.Compactions.{MovesOver, Compacts, LeavesBegun, Shifts};
 
-use crate::emptying::{empty, is_unshut};
+use crate::emptying::{empty, lacks_closed_gate};
 use crate::heads::OPEN;
-use crate::pouring::pour;
 use crate::walk::FIRST;
+use crate::writing::write_text;
 use crate::{CompactFault, Journal};
 use journal_rec::Packed;
 use plant::{Fault, Plant, Side};
@@ -32,8 +32,8 @@ fn other_side(side: Side) -> Side
 /// Opens the header gate in front of a text that is written.
 fn raise<P: Plant>(plant: &mut P, side: Side) -> Result<(), Fault>
     ensures ok { OnOk result ((P.seen plant.new).told ≡ with_steps (P.seen plant.old).told (Synced side ∷ Wrote side 0 (OPEN ∷ []) ∷ Synced side ∷ [])) }
-    ensures leaves { (base : Option Told) (unshut : Bool) (text : List ℕ) (pieces : List (List ℕ)) → ArePieces text pieces
-        → (P.seen plant.old).told ≡ with_steps base (filling side unshut pieces) → BreaksOff side unshut text base (P.seen plant.new).told result }
+    ensures leaves { (base : Option Told) (to_close : Bool) (text : List ℕ) (pieces : List (List ℕ)) → ArePieces text pieces
+        → (P.seen plant.old).told ≡ with_steps base (filling side to_close pieces) → BreaksOff side to_close text base (P.seen plant.new).told result }
     ensures cause { DiskCause (P.seen plant.old).faults (P.seen plant.new).faults result }
     ensures stopped { IsErrOf result Fault.Stopped ↔ IsTrue (P.seen plant.new).stopped }
 {
@@ -49,9 +49,9 @@ fn move_over<P: Plant>(plant: &mut P, side: Side, epoch: u64, records: &[u8]) ->
     ensures cause { DiskCause (P.seen plant.old).faults (P.seen plant.new).faults result }
     ensures stopped { IsErrOf result Fault.Stopped ↔ IsTrue (P.seen plant.new).stopped }
 {
-    let unshut = is_unshut(plant, side)?;
-    empty(plant, side, unshut)?;
-    pour(plant, side, epoch, records)?;
+    let to_close = lacks_closed_gate(plant, side)?;
+    empty(plant, side, to_close)?;
+    write_text(plant, side, epoch, records)?;
     raise(plant, side)
 }
 

@@ -1,4 +1,4 @@
-// The heads of sides, and where the journal stands by them.
+// The heads of sides, and the side that is live by them.
 ghost use Rattle.std.specs.Prelude.{◌≡◌, ◌≤◌, ◌∷◌, length, take};
 ghost use Rattle.journal_model.specs.Journals.{head, live};
 ghost use Rattle.journal_rec.specs.Payloads.{number};
@@ -12,7 +12,7 @@ pub const OPEN: u8 = 0xa5;
 /// The eight bytes behind the header gate, by which a side is known as a journal.
 const MAGIC: [u8; 8] = *b"LABJRNL1";
 
-/// The length of a header, with the gate of the first record behind it.
+/// The length of a header, with the gate of the first record after it.
 pub const HEADER: usize = 18;
 
 /// The head of a side: the bytes up to the first record.
@@ -20,15 +20,15 @@ pub const HEADER: usize = 18;
 pub enum Head {
     /// No journal: the header gate is closed, or the side is shorter than a header.
     Blank,
-    /// No header: its gate is open, and the bytes behind it are others.
+    /// No header: its gate is open, and the bytes after it are others.
     Foreign,
     /// The head of a journal of that epoch.
     Headed(u64),
 }
 
-/// Where the journal stands.
+/// The side that the journal is on.
 #[derive(Clone, Copy)]
-pub enum Place {
+pub enum LiveSide {
     /// On no side yet.
     New,
     On(Side),
@@ -47,7 +47,7 @@ pub fn epoch_in(bytes: &[u8]) -> u64
 }
 
 /// The head of a side with these bytes behind its open header gate.
-pub fn head_behind(bytes: &[u8]) -> Head
+pub fn head_after(bytes: &[u8]) -> Head
     ensures { result ≡ seen (head (OPEN ∷ bytes.now)) }
 {
     if bytes.len() < HEADER - 1 {
@@ -67,44 +67,44 @@ pub fn head_of(bytes: &[u8]) -> Head
     if bytes.is_empty() || bytes[0] != OPEN {
         return Head::Blank;
     }
-    head_behind(&bytes[1..])
+    head_after(&bytes[1..])
 }
 
-/// Where the journal stands, by both heads.
-fn place_of(a: Head, b: Head) -> Place
+/// The side that the journal is on, by both heads.
+fn place_of(a: Head, b: Head) -> LiveSide
     ensures { result ≡ place_of a b }
 {
     match a {
-        Head::Foreign => Place::Wrong(Side::A),
+        Head::Foreign => LiveSide::Wrong(Side::A),
         Head::Blank => match b {
-            Head::Foreign => Place::Wrong(Side::B),
-            Head::Blank => Place::New,
-            Head::Headed(_) => Place::On(Side::B),
+            Head::Foreign => LiveSide::Wrong(Side::B),
+            Head::Blank => LiveSide::New,
+            Head::Headed(_) => LiveSide::On(Side::B),
         },
         Head::Headed(m) => match b {
-            Head::Foreign => Place::Wrong(Side::B),
-            Head::Blank => Place::On(Side::A),
+            Head::Foreign => LiveSide::Wrong(Side::B),
+            Head::Blank => LiveSide::On(Side::A),
             Head::Headed(n) => later(m, n),
         },
     }
 }
 
 /// Which of two epochs is the later one.
-fn later(m: u64, n: u64) -> Place
+fn later(m: u64, n: u64) -> LiveSide
     ensures { result ≡ later m n }
 {
     if m == n {
-        Place::Wrong(Side::A)
+        LiveSide::Wrong(Side::A)
     } else if n < m {
-        Place::On(Side::A)
+        LiveSide::On(Side::A)
     } else {
-        Place::On(Side::B)
+        LiveSide::On(Side::B)
     }
 }
 
 /// Where the journal stands, by the bytes of both sides.
 #[tactic(auto, using(crate::proofs::Placing::place_live))]
-pub fn place_in(a: &[u8], b: &[u8]) -> Place
+pub fn place_in(a: &[u8], b: &[u8]) -> LiveSide
     ensures { result ≡ seen_live (live (head a.now) (head b.now)) }
 {
     place_of(head_of(a), head_of(b))

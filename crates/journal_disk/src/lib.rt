@@ -8,12 +8,12 @@ mod heads;
 mod journal;
 mod make;
 mod open;
-mod pouring;
 mod sides;
 mod walk;
+mod writing;
 
 pub use fault::{AppendFault, CompactFault, OpenFault};
-pub use heads::{HEADER, Head, OPEN, Place, head_behind, head_of, place_in};
+pub use heads::{HEADER, Head, LiveSide, OPEN, head_after, head_of, place_in};
 pub use journal::Journal;
 pub use open::Opened;
 pub use walk::FIRST;

@@ -15,7 +15,7 @@ ghost use Rattle.journal_disk.specs.Before.{IsOpening};
 ghost use Rattle.plant.specs.Events.{Event};
 ghost use Rattle.plant.specs.Told.{with_steps};
 
-use crate::heads::{HEADER, Place, epoch_in};
+use crate::heads::{HEADER, LiveSide, epoch_in};
 use crate::make::make;
 use crate::sides::{read_sides, sync_sides};
 use crate::walk::{FIRST, WalkFault, walk};
@@ -74,8 +74,8 @@ impl Journal {
     {
         sync_sides(plant)?;
         let sides = read_sides(alloc, plant)?;
-        match sides.place {
-            Place::New => {
+        match sides.live_side {
+            LiveSide::New => {
                 make(plant, sides.is_short)?;
                 let gate = FIRST as u64;
                 let journal = Journal {
@@ -86,8 +86,8 @@ impl Journal {
                 };
                 Ok((journal, Vec::new(alloc)))
             }
-            Place::On(side) => opened(alloc, side, &sides.live, limit),
-            Place::Wrong(side) => Err(OpenFault::Bad { side, at: 0 }),
+            LiveSide::On(side) => opened(alloc, side, &sides.live, limit),
+            LiveSide::Wrong(side) => Err(OpenFault::Bad { side, at: 0 }),
         }
     }
 }

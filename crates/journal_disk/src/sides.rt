@@ -9,7 +9,7 @@ ghost use Rattle.journal_disk.specs.Faults.{ReadCause};
 ghost use Rattle.journal_disk.specs.Seen.{AreSeen};
 
 use crate::OpenFault;
-use crate::heads::{HEADER, Place, place_in};
+use crate::heads::{HEADER, LiveSide, place_in};
 use plant::{Fault, Plant, Side};
 use std::alloc::Global;
 
@@ -130,7 +130,7 @@ fn read_whole<P: Plant>(plant: &mut P, side: Side, front: Front) -> Result<Vec<u
 /// The sides as an opening reads them: where the journal stands, and of its live side all bytes.
 #[derive(Drop)]
 pub struct Sides {
-    pub place: Place,
+    pub live_side: LiveSide,
     /// Side A is shorter than a header.
     pub is_short: bool,
     /// The bytes of the live side; none where no side is live.
@@ -138,12 +138,12 @@ pub struct Sides {
 }
 
 /// The sides where none is live.
-fn no_live(alloc: Global, place: Place, is_short: bool) -> Sides
-    ensures place { result.place ≡ place }
+fn no_live(alloc: Global, live_side: LiveSide, is_short: bool) -> Sides
+    ensures live_side { result.live_side ≡ live_side }
     ensures is_short { result.is_short ≡ is_short }
 {
     Sides {
-        place,
+        live_side,
         is_short,
         live: Vec::new(alloc),
     }
@@ -168,18 +168,18 @@ pub fn read_sides<P: Plant>(alloc: Global, plant: &mut P) -> Result<Sides, OpenF
 {
     let a = read_front(alloc, plant, Side::A)?;
     let b = read_front(alloc, plant, Side::B)?;
-    let place = place_in(&a.bytes, &b.bytes);
+    let live_side = place_in(&a.bytes, &b.bytes);
     let is_short = a.bytes.len() < HEADER;
-    match place {
-        Place::On(side) => {
+    match live_side {
+        LiveSide::On(side) => {
             let live = read_whole(plant, side, front_of(side, a, b))?;
             Ok(Sides {
-                place,
+                live_side,
                 is_short,
                 live,
             })
         }
-        Place::New => Ok(no_live(alloc, place, is_short)),
-        Place::Wrong(_) => Ok(no_live(alloc, place, is_short)),
+        LiveSide::New => Ok(no_live(alloc, live_side, is_short)),
+        LiveSide::Wrong(_) => Ok(no_live(alloc, live_side, is_short)),
     }
 }

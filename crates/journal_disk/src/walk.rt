@@ -9,7 +9,7 @@ use std::alloc::Global;
 /// The position of the first record's gate.
 pub const FIRST: usize = 17;
 
-/// The records of a side, and the position of the closed gate behind them.
+/// The records of a side, and the position of the closed gate after them.
 #[derive(Drop)]
 pub struct Walked {
     pub found: Vec<Found>,

@@ -86,7 +86,7 @@ live_on B epoch a b here older = ap (λ h. live (head a) h) here ∙ by (head a)
     by (Headed m) less = ap (λ t. if t then Wrong A else (if nat_lt (number epoch) (number m) then On A else On B)) (ne_eqb (number m) (number epoch) (λ e. omega (arith, e, less))) ∙ ap (λ t. if t then On A else On B) (le-ltb (number epoch) (number m) (omega (arith, less)))
     by Foreign none = absurd none
 
--- A LIVE SIDE THAT ENDS IN A CLOSED GATE, whatever stands behind it, has its records
+-- A LIVE SIDE THAT ENDS IN A CLOSED GATE, whatever stands after it, has its records
 pub on_shut : (side : Side) (epoch : List ℕ) (rs : List Record) (a b : List ℕ) (gate : ℕ) (rest : List ℕ) → length epoch ≡ 8 → ((r : Record) → Has rs r → IsRecord r) → IsOlder (head (of_side (other_side side) a b)) epoch → gate ≢ 165 → of_side side a b ≡ front epoch rs ++ gate ∷ rest → IsOn side a b rs
 on_shut side epoch rs a b gate rest eight written older shut is =
     let whole : of_side side a b ≡ header epoch ++ (blocks rs ++ gate ∷ rest) = is ∙ append_assoc (header epoch) (blocks rs) (gate ∷ rest) in

@@ -15,7 +15,7 @@ same_front (suc n) (x ∷ xs) (y ∷ ys) a b same =
     let rest = same_front n xs ys (omega arith) (omega arith) (λ k h. same (suc k) (omega arith)) in
     (λ i. here i ∷ rest i)
 
--- where all that was written since the sync is behind n bytes that were durable, each image begins with these bytes
+-- where all that was written since the sync is after n bytes that were durable, each image begins with these bytes
 pub front_kept : (d : Disk) (image : List ℕ) (n : ℕ) → IsImage d image → n ≤ length d.durable → n ≤ length d.reads → ((r : ℕ × ℕ) → Has d.written r → n ≤ r.0) → take n image ≡ take n d.durable
 front_kept d image n is a b behind =
     let long : n ≤ length image = omega (arith, is.no_shorter) in

@@ -58,7 +58,7 @@ pub data Broken (bytes : List ℕ) : Type 0 where
   cut_off : 4 ≤ length bytes → length bytes < 4 + number (take 4 bytes) + 1 → Broken bytes
   no_record : 4 ≤ length bytes → ((r : Record) → Decodes (take (number (take 4 bytes)) (drop 4 bytes)) r → ⊥) → Broken bytes
 
--- the bytes from a gate on are these records, and then an open gate with something broken behind it
+-- the bytes from a gate on are these records, and then an open gate with something broken after it
 abbrev pub Breaks : List ℕ → List Record → Type 0
 Breaks bytes [] = (rest : List ℕ) × (bytes ≡ 165 ∷ rest) × Broken rest
 Breaks bytes (r ∷ rs) = (rest : List ℕ) × IsRecord r × (bytes ≡ block r ++ rest) × Breaks rest rs

@@ -1,4 +1,4 @@
--- A record more behind the others.
+-- A record more after the others.
 use Rattle.std.proofs.Common.{◌≡◌, inl, inr, ℕ, ◌-◌, List, [], ◌∷◌, ◌++◌, length, set, refl, sym, ap, ◌∙◌, subst, arith, length-append, append_assoc}
 use Rattle.std.proofs.lemmas.List.{append-nil, set_at}
 use Rattle.lab_base.proofs.Members.{Has-append}
@@ -10,7 +10,7 @@ pub blocks-push : (rs : List Record) (r : Record) (rest : List ℕ) → blocks (
 blocks-push [] r rest = ap (λ l. l ++ rest) (append-nil (block r))
 blocks-push (q ∷ rs) r rest = append_assoc (block q) (blocks (rs ++ r ∷ [])) rest ∙ ap (λ l. block q ++ l) (blocks-push rs r rest) ∙ sym (append_assoc (block q) (blocks rs) (block r ++ rest))
 
--- with the last gate open, the body behind it is a record more
+-- with the last gate open, the body after it is a record more
 pub added : (old bytes : List ℕ) (rs : List Record) (r : Record) → ArePacked old rs → IsBody bytes r → ArePacked (set (old ++ bytes) (length old - 1) 165) (rs ++ r ∷ [])
 added old bytes rs r packed is = record {
   are_records = λ q has. elim (Has-append rs (r ∷ []) q has) [

@@ -1,4 +1,4 @@
--- Records in one piece, as a side of the journal holds them behind its header.
+-- Records in one piece, as a side of the journal holds them after its header.
 use Rattle.std.specs.Prelude.{◌≡◌, ◌+◌, ℕ, List, [], ◌∷◌, ◌++◌, length}
 use Rattle.std.specs.List.{flat_map}
 use Rattle.lab_base.specs.Lists.{Has}

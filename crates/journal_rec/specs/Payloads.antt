@@ -105,7 +105,7 @@ pub record IsShort (r : Record) : Type 0 where
   pub tags : length (tags_of r) < 2 ^ 16
   pub size : length (payload r) < 2 ^ 32
 
--- what stands behind a record's gate: the length of its payload in 4 bytes, the payload, and the next gate, closed
+-- what stands after a record's gate: the length of its payload in 4 bytes, the payload, and the next gate, closed
 abbrev pub body : Record → List ℕ
 body r = le 4 (length (payload r)) ++ payload r ++ 0 ∷ []
 

@@ -1,4 +1,4 @@
-//! Records of the journal, their one spelling as bytes, and records in one piece, as a side holds them behind its header.
+//! Records of the journal, their one spelling as bytes, and records in one piece, as a side holds them after its header.
 #![tactic(auto)]
 
 mod encoded;

@@ -11,7 +11,7 @@ use std::marker::Model;
 /// An open gate.
 const OPEN: u8 = 0xa5;
 
-/// Records as a side holds them behind its header: each behind its open gate, and a closed gate after the last. Contracts see these bytes.
+/// Records as a side holds them after its header: each behind its open gate, and a closed gate after the last. Contracts see these bytes.
 #[derive(Drop)]
 pub struct Packed {
     bytes: Vec<u8>,
@@ -37,7 +37,7 @@ impl Packed {
         Ok(Packed { bytes })
     }
 
-    /// Adds a record behind the others.
+    /// Adds a record after the others.
     pub fn add(&mut self, encoded: &Encoded) -> Result<(), Memory>
         ensures ok { OnOk result ((rs : List Record) (r : Record) → ArePacked self.old rs → IsBody encoded.now r → ArePacked self.new (rs ++ r ∷ [])) }
         ensures length { OnOk result (length self.new ≡ length self.old + length encoded.now) }
@@ -56,7 +56,7 @@ impl Packed {
         17 + self.bytes.len() as u64
     }
 
-    /// The bytes of the side behind its header.
+    /// The bytes of the side after its header.
     pub fn bytes(&self) -> &[u8]
         ensures { result.now ≡ self.now }
     {

@@ -118,7 +118,7 @@ fn put_record(out: &mut Vec<u8>, entry: &Record) -> Result<(), Memory>
     }
 }
 
-/// The payload behind its length, with the next gate, closed.
+/// The payload after its length, with the next gate, closed.
 fn framed(alloc: Global, payload: &[u8]) -> Result<Encoded, Memory>
     requires { length payload.now < 2 ^ 32 }
     ensures { IfOk result (λ encoded. encoded ≡ le 4 (length payload.now) ++ payload.now ++ 0 ∷ []) }

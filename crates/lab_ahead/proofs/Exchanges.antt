@@ -1,15 +1,15 @@
--- Exchanges along a trail: each need on it keeps as many nodes as it had, and the first one has one more.
+-- Exchanges along an augmenting path: each need on it keeps as many nodes as it had, and the first one has one more.
 use Rattle.std.proofs.Common.{◌≡◌, ◌≢◌, ◌<◌, ◌≤◌, ◌+◌, ℕ, Bool, true, cond, eqb, List, [], length, get_or, set, Option, Some, None, refl, sym, ap, ◌∙◌, subst, inl, inr, arith, get_or-set_same, get_or-set_other}
 use Rattle.std.specs.Global.{Vec}
 use Rattle.std.proofs.lemmas.Bool.{cases_eq, eq-eqb, ne_eqb}
 use Rattle.std.proofs.lemmas.List.Sums.{sum_by-set}
 use Rattle.phys_lab.specs.Tables.{rows}
 use Rattle.lab_ahead.specs.declared.giving.Giving.{Giving}
-use Rattle.lab_ahead.specs.declared.trail.Path.{Path}
-use Rattle.lab_ahead.specs.declared.trail.Step.{Step}
-use Rattle.lab_ahead.specs.Trails.{AreServed, AreSteps, IsPath, IsWhole, KeepsNodes, held, is_of, owner_at, owners_in, serves, step_at, table_in}
+use Rattle.lab_ahead.specs.declared.tree.Path.{Path}
+use Rattle.lab_ahead.specs.declared.tree.Step.{Step}
+use Rattle.lab_ahead.specs.SearchTrees.{AreServed, AreSteps, IsPath, IsWhole, KeepsNodes, held, is_of, owner_at, owners_in, serves, step_at, table_in}
 use Rattle.lab_ahead.proofs.Counting.{one_if}
-use Rattle.lab_ahead.proofs.TrailLaws.{owned_within}
+use Rattle.lab_ahead.proofs.TreeLaws.{owned_within}
 
 -- a node that goes from one need to another
 pub held-set : (owners : List (Option ℕ)) (i n : ℕ) (o : Option ℕ) → i < length owners
@@ -22,19 +22,19 @@ pub record IsUnderWay (table : List (List Bool)) (old owners : List (Option ℕ)
   pub inside : position < length owners
   pub served : AreServed table owners
   pub can : serves table (step_at steps place).need position ≡ true
-  pub trail : (k : ℕ) → 0 < k → k ≤ place → owner_at owners (step_at steps k).position ≡ Some (step_at steps k).need
+  pub tree : (k : ℕ) → 0 < k → k ≤ place → owner_at owners (step_at steps k).position ≡ Some (step_at steps k).need
   pub apart : (k : ℕ) → 0 < k → k ≤ place → owner_at owners position ≢ Some (step_at steps k).need
   pub counts : (n : ℕ) → held (set owners position None) n ≡ held old n
 
 pub begins : (table : List (List Bool)) (owners : List (Option ℕ)) (start : ℕ) (path : Path) → AreServed table owners → IsPath table owners start path
-    → IsUnderWay table owners owners path.trail.steps.items path.position path.place
+    → IsUnderWay table owners owners path.tree.steps.items path.position path.place
 begins table owners start path served is = record {
   step = is.found.step;
   inside = is.found.inside;
   served = served;
   can = is.found.served;
-  trail = λ k some le. (is.trail.each k some (omega (arith, is.found.step))).owned;
-  apart = λ k some le e. none (step_at path.trail.steps.items k).need (sym is.found.free ∙ e);
+  tree = λ k some le. (is.tree.each k some (omega (arith, is.found.step))).owned;
+  apart = λ k some le e. none (step_at path.tree.steps.items k).need (sym is.found.free ∙ e);
   counts = λ n. omega (arith, held-set owners path.position n None is.found.inside, ap (λ (o : Option ℕ). one_if (is_of n o)) is.found.free);
 }
   where
@@ -67,10 +67,10 @@ module _ (table : List (List Bool)) (old : List (Option ℕ)) (steps : List Step
     next = set owners position (Some (step_at steps place).need)
 
     away : (k : ℕ) → 0 < k → k ≤ place → (step_at steps k).position ≢ position
-    away k positive le e = way.apart k positive le (subst (λ (p : ℕ). owner_at owners p ≡ Some (step_at steps k).need) e (way.trail k positive le))
+    away k positive le e = way.apart k positive le (subst (λ (p : ℕ). owner_at owners p ≡ Some (step_at steps k).need) e (way.tree k positive le))
 
     kept : (k : ℕ) → 0 < k → k ≤ place → owner_at (set owners position (Some (step_at steps place).need)) (step_at steps k).position ≡ Some (step_at steps k).need
-    kept k positive le = get_or-set_other owners position (step_at steps k).position (Some (step_at steps place).need) None (away k positive le) ∙ way.trail k positive le
+    kept k positive le = get_or-set_other owners position (step_at steps k).position (Some (step_at steps place).need) None (away k positive le) ∙ way.tree k positive le
 
     back : (step_at steps place).parent < place
     back = (are.each place some way.step).back
@@ -92,7 +92,7 @@ module _ (table : List (List Bool)) (old : List (Option ℕ)) (steps : List Step
       inside = inside;
       served = served (step_at steps place).need refl;
       can = (are.each place some way.step).served;
-      trail = λ k positive le. kept k positive (omega (arith, back));
+      tree = λ k positive le. kept k positive (omega (arith, back));
       apart = λ k positive le e. are.differ k place (omega (arith, back)) way.step
           (sym (same_need (step_at steps place).need (step_at steps k).need (sym (kept place some (omega arith)) ∙ e)));
       counts = counts;

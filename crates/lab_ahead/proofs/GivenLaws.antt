@@ -2,7 +2,7 @@
 use Rattle.std.proofs.Common.{◌≡◌, ◌<◌, ◌+◌, ℕ, zero, suc, eqb, List, [], ◌∷◌, ◌++◌, length, map, drop, get_or, count_by, Option, Some, None, refl, sym, ap, ◌∙◌, subst, inl, inr, arith}
 use Rattle.lab_base.specs.Lists.{Has, AllDiffer}
 use Rattle.lab_base.specs.declared.ids.NodeId.{NodeId}
-use Rattle.lab_ahead.specs.Trails.{given_of, held, is_of, owner_at}
+use Rattle.lab_ahead.specs.SearchTrees.{given_of, held, is_of, owner_at}
 use Rattle.lab_ahead.proofs.Counting.{count-cons, one_if}
 
 -- the node, if it is given to a need

@@ -12,7 +12,7 @@ use Rattle.phys_lab.specs.Labs.{Lab}
 use Rattle.phys_lab.specs.Keys.{has_name}
 use Rattle.lab_ahead.specs.declared.fitting.Need.{Need}
 use Rattle.lab_ahead.specs.Givings.{Fits, IsShort, has_type, have_of, need_at}
-use Rattle.lab_ahead.specs.Trails.{is_of}
+use Rattle.lab_ahead.specs.SearchTrees.{is_of}
 use Rattle.lab_ahead.proofs.Counting.{one_if, count-cons, count-map, count_among, count_of_more}
 
 -- whether a node's need is among those that are chosen

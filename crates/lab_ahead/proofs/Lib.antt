@@ -1,6 +1,6 @@
 mod Counting
 mod Halls
-mod TrailLaws
+mod TreeLaws
 mod Exchanges
 mod LookLaws
 mod GivenLaws

@@ -18,7 +18,7 @@ use Rattle.lab_ahead.specs.declared.batch.Promise.{Promise}
 use Rattle.lab_ahead.specs.declared.batch.Run.{Run}
 use Rattle.lab_ahead.specs.Batches.{IsPromise, IsRun, KeepsLimits, PromiseRead, added, in_order, promise_line, run_line, run_of, start, with_promise, with_run}
 
--- what is read behind a test, and behind a first step
+-- what is read after a test, and after a first step
 tested : {X : Type 0} (b : Bool) (kind : Kind) (r : Result X Kind) (x : X) → cond b r (Err kind) ≡ Ok x → (b ≡ true) × (r ≡ Ok x)
 tested true kind r x h = (refl, h)
 tested false kind r x h = absurd (cc h)

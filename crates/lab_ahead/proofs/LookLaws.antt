@@ -1,12 +1,12 @@
--- A look along the row of a need: the entries read, and the trail behind it.
+-- A look along the row of a need: the entries read, and the tree after it.
 use Rattle.std.proofs.Common.{◌≡◌, ◌<◌, ◌+◌, ℕ, zero, suc, Bool, true, false, List, [], ◌∷◌, length, get_or, Option, sym, ap, ◌∙◌, subst, inl, inr, arith}
 use Rattle.std.specs.Global.{Vec}
 use Rattle.std.proofs.lemmas.Bool.{cases_lt, false≢true}
 use Rattle.std.proofs.lemmas.List.{get_or-map, get_or_read, length-map, get_or_past}
 use Rattle.lab_ahead.specs.declared.giving.Giving.{Giving}
-use Rattle.lab_ahead.specs.declared.trail.Step.{Step}
-use Rattle.lab_ahead.specs.Trails.{AreSteps, Extends, IsClosedAt, IsTaken, IsWhole, owners_in, serves, step_at, table_in}
-use Rattle.lab_ahead.proofs.TrailLaws.{reached_within, still_taken}
+use Rattle.lab_ahead.specs.declared.tree.Step.{Step}
+use Rattle.lab_ahead.specs.SearchTrees.{AreSteps, Extends, IsClosedAt, IsTaken, IsWhole, owners_in, serves, step_at, table_in}
+use Rattle.lab_ahead.proofs.TreeLaws.{reached_within, still_taken}
 
 pub read_step : (steps : List Step) (k : ℕ) (step : Step) → k < length steps → step ≡ get_or steps k step → step_at steps k ≡ step
 read_step steps k step lt is = sym (get_or_read steps k step lt is (record { need = 0; position = 0; parent = 0 }))

@@ -10,7 +10,7 @@ use Rattle.lab_ahead.specs.declared.batch.Promise.{Promise}
 use Rattle.lab_ahead.specs.declared.fitting.Need.{Need}
 use Rattle.lab_ahead.specs.Givings.{Fits, has_type, need_at}
 use Rattle.lab_ahead.specs.Moments.{need_of_promise}
-use Rattle.lab_ahead.specs.Trails.{is_of}
+use Rattle.lab_ahead.specs.SearchTrees.{is_of}
 use Rattle.lab_ahead.proofs.Counting.{count-cons, one_if}
 use Rattle.lab_ahead.proofs.Exchanges.{none_there}
 

@@ -12,7 +12,7 @@ use Rattle.lab_ahead.specs.declared.batch.Promise.{Promise}
 use Rattle.lab_ahead.specs.Givings.{has_type}
 use Rattle.lab_ahead.specs.Moments.{holds_at, need_of_promise, needs_at}
 use Rattle.lab_ahead.specs.Served.{promise_at}
-use Rattle.lab_ahead.specs.Trails.{table_of}
+use Rattle.lab_ahead.specs.SearchTrees.{table_of}
 
 pub rows_length : (table : List (Vec Bool)) → length (rows table) ≡ length table
 rows_length table = length-map table (λ (row : Vec Bool). row.items)
@@ -21,7 +21,7 @@ rows_length table = length-map table (λ (row : Vec Bool). row.items)
 pub row_read : (table : List (Vec Bool)) (n : ℕ) (row : Vec Bool) → n < length table → row ≡ get_or table n row → get_or (rows table) n [] ≡ row.items
 row_read table n row lt is = get_or-map (λ (r : Vec Bool). r.items) table n row [] lt ∙ ap (λ (r : Vec Bool). r.items) (sym is)
 
--- what holds of each entry holds of one more behind them
+-- what holds of each entry holds of one more after them
 pub each_pushed : {X : Type 0} (P : ℕ → X → Type 0) (xs : List X) (x d : X) (n : ℕ) → length xs ≡ n → ((k : ℕ) → k < n → P k (get_or xs k d)) → P n x
     → (k : ℕ) → k < n + 1 → P k (get_or (xs ++ x ∷ []) k d)
 each_pushed {X} P xs x d n len before here k lt = elim (cases_lt k n) [

@@ -13,12 +13,12 @@ use Rattle.lab_base.proofs.Members.{Has-place, Has-get_or, any_has, any_from}
 use Rattle.phys_lab.specs.Labs.{Lab}
 use Rattle.lab_ahead.specs.declared.fitting.Need.{Need}
 use Rattle.lab_ahead.specs.declared.giving.Giving.{Giving}
-use Rattle.lab_ahead.specs.declared.trail.Step.{Step}
-use Rattle.lab_ahead.specs.declared.trail.Trail.{Trail}
+use Rattle.lab_ahead.specs.declared.tree.Step.{Step}
+use Rattle.lab_ahead.specs.declared.tree.SearchTree.{SearchTree}
 use Rattle.lab_ahead.specs.Givings.{IsGiving, IsShort, has_type, have_of, need_at, need_of}
-use Rattle.lab_ahead.specs.Trails.{AreMet, AreServed, IsStuck, IsTable, IsWanting, IsWhole, KeepsNodes, Reached, given_of, held, owner_at, owners_in, serves, step_at, table_in, table_of}
+use Rattle.lab_ahead.specs.SearchTrees.{AreMet, AreServed, IsStuck, IsTable, IsWanting, IsWhole, KeepsNodes, Reached, given_of, held, owner_at, owners_in, serves, step_at, table_in, table_of}
 use Rattle.lab_ahead.proofs.Counting.{count_beside}
-use Rattle.lab_ahead.proofs.TrailLaws.{reached_within}
+use Rattle.lab_ahead.proofs.TreeLaws.{reached_within}
 use Rattle.lab_ahead.proofs.LookLaws.{served_within}
 use Rattle.lab_ahead.proofs.Exchanges.{table_still}
 use Rattle.lab_ahead.proofs.GivenLaws.{each_given, given_count, given_once}
@@ -48,12 +48,12 @@ fresh_whole needs nodes table giving is same owners = record { wide = wide; serv
     served : AreServed (table_in giving) (owners_in giving)
     served i n e = absurd (no_need n (sym (none_at nodes i) ∙ ap (λ (o : List (Option ℕ)). owner_at o i) (sym owners) ∙ e))
 
--- the needs of a trail are needs of the table
-pub steps_within : (needs : List Need) (last : Giving) → length (table_in last) ≡ length needs → (trail : Trail) → IsWanting needs (table_in last) (owners_in last) trail
-    → (k : ℕ) (d : Step) → k < length trail.steps.items → (get_or trail.steps.items k d).need < length needs
-steps_within needs last wide trail is k d lt =
-    let within : (step_at trail.steps.items k).need < length (table_in last) = reached_within (step_at trail.steps.items k).need is.stuck.is_trail (k, lt, refl) in
-    let same : (get_or trail.steps.items k d).need ≡ (step_at trail.steps.items k).need = ap (λ (s : Step). s.need) (get_or_default trail.steps.items k d (record { need = 0; position = 0; parent = 0 }) lt) in
+-- the needs of a tree are needs of the table
+pub steps_within : (needs : List Need) (last : Giving) → length (table_in last) ≡ length needs → (tree : SearchTree) → IsWanting needs (table_in last) (owners_in last) tree
+    → (k : ℕ) (d : Step) → k < length tree.steps.items → (get_or tree.steps.items k d).need < length needs
+steps_within needs last wide tree is k d lt =
+    let within : (step_at tree.steps.items k).need < length (table_in last) = reached_within (step_at tree.steps.items k).need is.stuck.is_tree (k, lt, refl) in
+    let same : (get_or tree.steps.items k d).need ≡ (step_at tree.steps.items k).need = ap (λ (s : Step). s.need) (get_or_default tree.steps.items k d (record { need = 0; position = 0; parent = 0 }) lt) in
     omega arith
 
 module _ (lab : Lab) (left : List NodeId) (needs : List Need) where
@@ -93,10 +93,10 @@ module _ (lab : Lab) (left : List NodeId) (needs : List Need) where
         here i lt = Has-get_or left i (record { 0 = 0 }) lt
 
     -- one need can't be
-    module _ (trail : Trail) (is : IsWanting needs (table_of lab left needs) owners trail) (kinds : List (List ℕ))
-        (all : (n : ℕ) → Reached trail.steps.items n → Has kinds (need_at needs n).kind)
-        (only : (kind : List ℕ) → Has kinds kind → (n : ℕ) × Reached trail.steps.items n × ((need_at needs n).kind ≡ kind)) where
-      among : (n : ℕ) → Reached trail.steps.items n → is_among kinds (need_at needs n) ≡ true
+    module _ (tree : SearchTree) (is : IsWanting needs (table_of lab left needs) owners tree) (kinds : List (List ℕ))
+        (all : (n : ℕ) → Reached tree.steps.items n → Has kinds (need_at needs n).kind)
+        (only : (kind : List ℕ) → Has kinds kind → (n : ℕ) × Reached tree.steps.items n × ((need_at needs n).kind ≡ kind)) where
+      among : (n : ℕ) → Reached tree.steps.items n → is_among kinds (need_at needs n) ≡ true
       among n reached = any_has (same_name (need_at needs n).kind) kinds (need_at needs n).kind (all n reached) (bytes_self (need_at needs n).kind)
 
       taken : (i : ℕ) → i < length left → has_some lab kinds (node_at left i) ≡ true → chosen (is_among kinds) needs (owner_at owners i) ≡ true
@@ -104,8 +104,8 @@ module _ (lab : Lab) (left : List NodeId) (needs : List Need) where
           let found = any_from (λ (kind : List ℕ). has_type lab kind (node_at left i)) kinds e in
           let need = only found.0 found.1 in
           let typed : has_type lab (need_at needs need.0).kind (node_at left i) ≡ true = subst (λ (kind : List ℕ). has_type lab kind (node_at left i) ≡ true) (sym need.2) found.2 in
-          let within : need.0 < length needs = omega (arith, reached_within need.0 is.stuck.is_trail need.1, table_wide) in
-          let can : serves (table_of lab left needs) (step_at trail.steps.items need.1.0).need i ≡ true =
+          let within : need.0 < length needs = omega (arith, reached_within need.0 is.stuck.is_tree need.1, table_wide) in
+          let can : serves (table_of lab left needs) (step_at tree.steps.items need.1.0).need i ≡ true =
           subst (λ (n : ℕ). serves (table_of lab left needs) n i ≡ true) (sym need.1.2) (serves_is need.0 i within lt ∙ typed) in
           let owner = is.stuck.closed need.1.0 need.1.1 i can in
           ap (λ (o : Option ℕ). chosen (is_among kinds) needs o) owner.1 ∙ among owner.0 owner.2
@@ -120,8 +120,8 @@ module _ (lab : Lab) (left : List NodeId) (needs : List Need) where
           let few : have_of lab left kinds ≤ count_by (chosen c needs) owners =
           count_beside (has_some lab kinds) (chosen c needs) left owners (record { 0 = 0 }) None (sym same) taken in
           let same_sum : held_sum (held owners) c needs ≡ count_by (chosen c needs) owners = sum-held (λ (o : Option ℕ). o) c needs owners owners_are in
-          let start_reached : Reached trail.steps.items is.start = (0, is.stuck.is_trail.some, is.stuck.start_is) in
-          let within : is.start < length needs = omega (arith, reached_within is.start is.stuck.is_trail start_reached, table_wide) in
+          let start_reached : Reached tree.steps.items is.start = (0, is.stuck.is_tree.some, is.stuck.start_is) in
+          let within : is.start < length needs = omega (arith, reached_within is.start is.stuck.is_tree start_reached, table_wide) in
           let less : held_sum (held owners) c needs < total c needs = sum_less (held owners) c needs is.start (λ n lt. is.none_more n) within (among is.start start_reached) is.fewer in
           omega arith
 
@@ -151,8 +151,8 @@ module _ (needs : List Need) (i : ℕ) (old new : List (Option ℕ)) (met : AreM
         others n (λ e. ne (sym e)) ∙ met n ∙ ap (λ (b : Bool). cond b (need_at needs n).count 0) same
   ]
 
-  pub wanting : (table : List (List Bool)) (trail : Trail) → IsStuck table new i trail → held new i < held old i + (need_at needs i).count → IsWanting needs table new trail
-  wanting table trail stuck fewer = record {
+  pub wanting : (table : List (List Bool)) (tree : SearchTree) → IsStuck table new i tree → held new i < held old i + (need_at needs i).count → IsWanting needs table new tree
+  wanting table tree stuck fewer = record {
     start = i;
     stuck = stuck;
     fewer = omega (arith, none_yet, fewer);
@@ -182,10 +182,10 @@ module _ (lab : Lab) (left : List NodeId) (needs : List Need) (first last : Givi
   pub shows_giving : AllDiffer left → AreMet needs (length needs) (owners_in last) → (given : List (NodeId × ℕ)) → given ≡ given_of left (owners_in last) → IsGiving lab left needs given
   shows_giving differ met given is = subst (λ (l : List (NodeId × ℕ)). IsGiving lab left needs l) (sym is) (is_giving lab left needs (owners_in last) as_many are_served differ met)
 
-  wants : (trail : Trail) → IsWanting needs (table_in last) (owners_in last) trail → IsWanting needs (table_of lab left needs) (owners_in last) trail
-  wants trail is = subst (λ (t : List (List Bool)). IsWanting needs t (owners_in last) trail) table_is is
+  wants : (tree : SearchTree) → IsWanting needs (table_in last) (owners_in last) tree → IsWanting needs (table_of lab left needs) (owners_in last) tree
+  wants tree is = subst (λ (t : List (List Bool)). IsWanting needs t (owners_in last) tree) table_is is
 
-  pub shows_short : (trail : Trail) → IsWanting needs (table_in last) (owners_in last) trail → (kinds : List (List ℕ)) → IsStrictlySortedBy (slice_cmp nat_cmp) kinds
-      → ((n : ℕ) → Reached trail.steps.items n → Has kinds (need_at needs n).kind) → ((kind : List ℕ) → Has kinds kind → (n : ℕ) × Reached trail.steps.items n × ((need_at needs n).kind ≡ kind))
+  pub shows_short : (tree : SearchTree) → IsWanting needs (table_in last) (owners_in last) tree → (kinds : List (List ℕ)) → IsStrictlySortedBy (slice_cmp nat_cmp) kinds
+      → ((n : ℕ) → Reached tree.steps.items n → Has kinds (need_at needs n).kind) → ((kind : List ℕ) → Has kinds kind → (n : ℕ) × Reached tree.steps.items n × ((need_at needs n).kind ≡ kind))
       → IsShort lab left needs kinds
-  shows_short trail is kinds rising all only = record { rising = rising; short = is_short lab left needs (owners_in last) as_many are_served trail (wants trail is) kinds all only }
+  shows_short tree is kinds rising all only = record { rising = rising; short = is_short lab left needs (owners_in last) as_many are_served tree (wants tree is) kinds all only }

@@ -14,7 +14,7 @@ use Rattle.lab_ahead.specs.declared.batch.Batch.{Batch}
 use Rattle.lab_ahead.specs.declared.batch.Promise.{Promise}
 use Rattle.lab_ahead.specs.declared.batch.Run.{Run}
 
--- LINES, BY THEIR FIELDS BEHIND THE KEYWORD
+-- LINES, BY THEIR FIELDS AFTER THE KEYWORD
 
 -- a type, how many nodes, from when on and until when
 abbrev pub PromiseRead : Type 0

@@ -9,15 +9,15 @@ use Rattle.lab_ahead.specs.declared.times.Left.{Left}
 use Rattle.lab_ahead.specs.declared.ends.End.{End}
 
 -- when the run of an experiment ends, if the batch swapped it in
-abbrev pub end_of : List End → List ℕ → Option ℕ
-end_of [] exp = None
-end_of (end ∷ ends) exp = if same_name end.exp exp then Some end.at else end_of ends exp
+abbrev pub run_end : List End → List ℕ → Option ℕ
+run_end [] exp = None
+run_end (end ∷ ends) exp = if same_name end.exp exp then Some end.at else run_end ends exp
 
 -- from when on a node is left that these experiments claim: at once where none does; from its run's end on where only one does, which the batch
 -- swapped in
 abbrev pub from_of : List End → List (List ℕ) → Option ℕ
 from_of ends [] = Some 0
-from_of ends (exp ∷ []) = end_of ends exp
+from_of ends (exp ∷ []) = run_end ends exp
 from_of ends (exp ∷ (other ∷ exps)) = None
 
 -- a virtual node is placed on the node
@@ -34,4 +34,4 @@ left_for claimers ends places = flat_map (λ c. listed (left_of ends places (rec
 
 -- of a node: no experiment claims it, or one alone, which the batch swapped in and whose run has ended at that moment
 abbrev pub IsLeftAt : List End → List (List ℕ) → ℕ → Type 0
-IsLeftAt ends exps t = (exps ≡ []) ⊎ ((exp : List ℕ) × (end : ℕ) × (exps ≡ exp ∷ []) × (end_of ends exp ≡ Some end) × (end ≤ t))
+IsLeftAt ends exps t = (exps ≡ []) ⊎ ((exp : List ℕ) × (end : ℕ) × (exps ≡ exp ∷ []) × (run_end ends exp ≡ Some end) × (end ≤ t))

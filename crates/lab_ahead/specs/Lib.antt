@@ -1,6 +1,6 @@
 pub mod Batches
 pub mod Givings
-pub mod Trails
+pub mod SearchTrees
 pub mod Moments
 pub mod Waits
 pub mod Ends

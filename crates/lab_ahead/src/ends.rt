@@ -4,7 +4,7 @@ ghost use Rattle.lab_base.specs.Lists.{Has, AllDiffer};
 ghost use Rattle.lab_base.specs.declared.ids.NodeId.{NodeId as AnyNode};
 ghost use Rattle.lab_ahead.specs.declared.ends.End.{End as AnyEnd};
 ghost use Rattle.lab_ahead.specs.Moments.{left_at};
-ghost use Rattle.lab_ahead.specs.Ends.{IsLeftAt, end_of, from_of, is_placed, left_of, left_for};
+ghost use Rattle.lab_ahead.specs.Ends.{IsLeftAt, run_end, from_of, is_placed, left_of, left_for};
 
 use crate::times::Left;
 use lab_base::{Items, Memory, Name, NodeId};
@@ -19,8 +19,8 @@ pub struct End {
 }
 
 /// When the run of an experiment ends, if the batch swapped it in.
-fn end_of(ends: &[End], exp: Name) -> Option<u64>
-    ensures { result ≡ end_of ends.now exp }
+fn run_end(ends: &[End], exp: Name) -> Option<u64>
+    ensures { result ≡ run_end ends.now exp }
 {
     for end in ends {
         if end.exp == exp {
@@ -36,7 +36,7 @@ fn from_of(ends: &[End], claimers: &[Name]) -> Option<u64>
 {
     match claimers {
         [] => Some(0),
-        [exp] => end_of(ends, *exp),
+        [exp] => run_end(ends, *exp),
         _ => None,
     }
 }

@@ -8,11 +8,11 @@ ghost use Rattle.phys_lab.specs.Labs.{Lab as AnyLab};
 ghost use Rattle.phys_lab.specs.Tables.{rows};
 ghost use Rattle.lab_ahead.specs.declared.fitting.Need.{Need};
 ghost use Rattle.lab_ahead.specs.Givings.{Fits, IsShort, IsYes, Shows, need_at};
-ghost use Rattle.lab_ahead.specs.Trails.{IsTable, Reached, given_of, table_of};
+ghost use Rattle.lab_ahead.specs.SearchTrees.{IsTable, Reached, given_of, table_of};
 
 use crate::giving::{Giving, table_of};
 use crate::read::MAX_PROMISES;
-use crate::trail::Step;
+use crate::tree::Step;
 use lab_base::{Items, Memory, Name, NodeId};
 use phys_lab::Lab;
 use std::alloc::Global;
@@ -49,7 +49,7 @@ fn given_of(
     Ok(given)
 }
 
-/// The types of the needs that a trail reached.
+/// The types of the needs that a tree reached.
 fn kinds_reached(alloc: Global, needs: &[Need], steps: &[Step]) -> Result<Items<Name>, Memory>
     requires { All (λ step. step.need < length needs.now) steps.now }
     ensures rising { IfOk result (IsStrictlySortedBy (slice_cmp nat_cmp)) }
@@ -81,12 +81,12 @@ pub(crate) fn fits_by(
     let mut giving = Giving::new(alloc, table, left.len())?;
     match giving.serve_all(alloc, needs)? {
         None => Ok(Fit::Yes(given_of(alloc, left, &giving.owners)?)),
-        Some(trail) => Ok(Fit::No(kinds_reached(alloc, needs, &trail.steps)?)),
+        Some(tree) => Ok(Fit::No(kinds_reached(alloc, needs, &tree.steps)?)),
     }
 }
 
 /// Whether the nodes left meet the needs: each need gets as many nodes of its type as it counts, and no node is given twice.
-/// Nodes are exchanged between needs along trails. `No` comes exactly where no giving exists.
+/// Nodes are exchanged between needs along augmenting paths. `No` comes exactly where no giving exists.
 pub fn fits(alloc: Global, lab: &Lab, left: &[NodeId], needs: &[Need]) -> Result<Fit, Memory>
     requires differ { AllDiffer left.now }
     requires of_lab { All (λ node. node.0 < length lab.now.nodes) left.now }

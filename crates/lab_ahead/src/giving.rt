@@ -4,11 +4,11 @@ ghost use Rattle.std.specs.List.{list_any};
 ghost use Rattle.lab_base.specs.Names.{same_name};
 ghost use Rattle.phys_lab.specs.Tables.{rows};
 ghost use Rattle.lab_ahead.specs.Givings.{has_type};
-ghost use Rattle.lab_ahead.specs.Trails.{AreMet, Extends, IsClosedAt, IsFree, IsPath, IsSearched, IsTaken, IsTrail, IsStuck, IsWanting, IsWhole, KeepsNodes, held, owner_at, owners_in, serves, step_at, table_in, table_of};
+ghost use Rattle.lab_ahead.specs.SearchTrees.{AreMet, Extends, IsClosedAt, IsFree, IsPath, IsSearched, IsTaken, IsTree, IsStuck, IsWanting, IsWhole, KeepsNodes, held, owner_at, owners_in, serves, step_at, table_in, table_of};
 
 use crate::fitting::Need;
 use crate::read::MAX_PROMISES;
-use crate::trail::{Path, Search, Step, Trail};
+use crate::tree::{Path, Search, SearchTree, Step};
 use lab_base::{Memory, Name, NodeId};
 use phys_lab::Lab;
 use std::alloc::Global;
@@ -74,10 +74,10 @@ impl Giving {
         })
     }
 
-    fn first_step(&self, alloc: Global, start: u16) -> Result<Trail, Memory>
+    fn first_step(&self, alloc: Global, start: u16) -> Result<SearchTree, Memory>
         requires { start < length (table_in self.now) }
-        ensures trail { IfOk result (IsTrail (table_in self.now) (owners_in self.now)) }
-        ensures start { IfOk result (λ trail. (step_at trail.steps.items 0).need ≡ start) }
+        ensures tree { IfOk result (IsTree (table_in self.now) (owners_in self.now)) }
+        ensures start { IfOk result (λ tree. (step_at tree.steps.items 0).need ≡ start) }
     {
         let mut steps = Vec::new(alloc);
         steps.push(Step {
@@ -87,46 +87,46 @@ impl Giving {
         })?;
         let mut seen = vec![in alloc; false; self.rows.len()]?;
         seen[start as usize] = true;
-        Ok(Trail { steps, seen })
+        Ok(SearchTree { steps, seen })
     }
 
-    /// Adds a step to a trail, unless its need is reached already.
-    fn reach(&self, trail: &mut Trail, step: Step) -> Result<(), Memory>
-        requires trail { IsTrail (table_in self.now) (owners_in self.now) trail.old }
-        requires back { step.parent < length trail.old.steps.items }
+    /// Adds a step to a tree, unless its need is reached already.
+    fn reach(&self, tree: &mut SearchTree, step: Step) -> Result<(), Memory>
+        requires tree { IsTree (table_in self.now) (owners_in self.now) tree.old }
+        requires back { step.parent < length tree.old.steps.items }
         requires owned { owner_at (owners_in self.now) step.position ≡ Some step.need }
         requires inside { step.need < length (table_in self.now) }
-        requires served { serves (table_in self.now) (step_at trail.old.steps.items step.parent).need step.position ≡ true }
-        ensures trail { OnOk result (IsTrail (table_in self.now) (owners_in self.now) trail.new) }
-        ensures extends { OnOk result (Extends trail.old.steps.items trail.new.steps.items) }
-        ensures reached { OnOk result (IsTaken (owners_in self.now) trail.new.steps.items step.position) }
+        requires served { serves (table_in self.now) (step_at tree.old.steps.items step.parent).need step.position ≡ true }
+        ensures tree { OnOk result (IsTree (table_in self.now) (owners_in self.now) tree.new) }
+        ensures extends { OnOk result (Extends tree.old.steps.items tree.new.steps.items) }
+        ensures reached { OnOk result (IsTaken (owners_in self.now) tree.new.steps.items step.position) }
     {
-        if trail.seen[step.need as usize] {
+        if tree.seen[step.need as usize] {
             return Ok(());
         }
-        trail.steps.push(step)?;
-        trail.seen[step.need as usize] = true;
+        tree.steps.push(step)?;
+        tree.seen[step.need as usize] = true;
         Ok(())
     }
 
-    /// Reaches the needs of all nodes that the need of a step can take. Answers the place of one that is free, if there is one.
-    fn look(&self, trail: &mut Trail, place: usize) -> Result<Option<usize>, Memory>
+    /// Reaches the needs of all nodes that the need of a step can take. Answers the number of one that is free, if there is one.
+    fn look(&self, tree: &mut SearchTree, place: usize) -> Result<Option<usize>, Memory>
         requires whole { IsWhole self.now }
-        requires trail { IsTrail (table_in self.now) (owners_in self.now) trail.old }
-        requires place { place < length trail.old.steps.items }
-        ensures trail { OnOk result (IsTrail (table_in self.now) (owners_in self.now) trail.new) }
-        ensures extends { OnOk result (Extends trail.old.steps.items trail.new.steps.items) }
+        requires tree { IsTree (table_in self.now) (owners_in self.now) tree.old }
+        requires place { place < length tree.old.steps.items }
+        ensures tree { OnOk result (IsTree (table_in self.now) (owners_in self.now) tree.new) }
+        ensures extends { OnOk result (Extends tree.old.steps.items tree.new.steps.items) }
         ensures answer { IfOk result (λ free. MatchOption free
-            (IsClosedAt (table_in self.now) (owners_in self.now) trail.new.steps.items place)
-            (IsFree (table_in self.now) (owners_in self.now) trail.new.steps.items place)) }
+            (IsClosedAt (table_in self.now) (owners_in self.now) tree.new.steps.items place)
+            (IsFree (table_in self.now) (owners_in self.now) tree.new.steps.items place)) }
     {
-        let need = trail.steps[place].need;
+        let need = tree.steps[place].need;
         let row = self.rows[need as usize].as_slice();
         for i in 0..row.len() {
             if row[i] {
                 match self.owners[i] {
                     Some(owner) => self.reach(
-                        trail,
+                        tree,
                         Step {
                             need: owner,
                             position: i,
@@ -140,25 +140,25 @@ impl Giving {
         Ok(None)
     }
 
-    /// Searches a free node that can come to a need by exchanges along a trail.
+    /// Searches a free node that can come to a need by exchanges along an augmenting path.
     fn search(&self, alloc: Global, start: u16) -> Result<Search, Memory>
         requires whole { IsWhole self.now }
         requires start { start < length (table_in self.now) }
         ensures { IfOk result (IsSearched (table_in self.now) (owners_in self.now) start) }
     {
-        let mut trail = self.first_step(alloc, start)?;
+        let mut tree = self.first_step(alloc, start)?;
         let mut place = 0;
-        while place < trail.steps.len() {
-            if let Some(position) = self.look(&mut trail, place)? {
+        while place < tree.steps.len() {
+            if let Some(position) = self.look(&mut tree, place)? {
                 return Ok(Search::Free(Path {
-                    trail,
+                    tree,
                     place,
                     position,
                 }));
             }
             place += 1;
         }
-        Ok(Search::Stuck(trail))
+        Ok(Search::Stuck(tree))
     }
 
     /// Gives the free node to its step's need. Each node by which a need was reached goes to the need before it, up to the first one.
@@ -169,7 +169,7 @@ impl Giving {
         ensures nodes { KeepsNodes self.old self.new }
         ensures held { (n : ℕ) → held (owners_in self.new) n ≡ held (owners_in self.old) n + (if start == n then 1 else 0) }
     {
-        let steps = path.trail.steps.as_slice();
+        let steps = path.tree.steps.as_slice();
         let mut position = path.position;
         let mut place = path.place;
         while place > 0 {
@@ -228,8 +228,8 @@ impl Giving {
         given
     }
 
-    /// Gives so many nodes to a need. Where that can't be, it answers the stuck trail.
-    fn serve(&mut self, alloc: Global, need: u16, count: u16) -> Result<Option<Trail>, Memory>
+    /// Gives so many nodes to a need. Where that can't be, it answers the stuck tree.
+    fn serve(&mut self, alloc: Global, need: u16, count: u16) -> Result<Option<SearchTree>, Memory>
         requires whole { IsWhole self.old }
         requires need { need < length (table_in self.old) }
         ensures whole { OnOk result (IsWhole self.new) }
@@ -237,25 +237,25 @@ impl Giving {
         ensures others { OnOk result ((n : ℕ) → (need ≡ n → ⊥) → held (owners_in self.new) n ≡ held (owners_in self.old) n) }
         ensures answer { IfOk result (λ stuck. MatchOption stuck
             (held (owners_in self.new) need ≡ held (owners_in self.old) need + count)
-            (λ trail. IsStuck (table_in self.new) (owners_in self.new) need trail
+            (λ tree. IsStuck (table_in self.new) (owners_in self.new) need tree
             × (held (owners_in self.new) need < held (owners_in self.old) need + count))) }
     {
         let given = self.give(need, count);
         for _given in given..count {
             match self.search(alloc, need)? {
                 Search::Free(path) => self.exchange(need, &path),
-                Search::Stuck(trail) => return Ok(Some(trail)),
+                Search::Stuck(tree) => return Ok(Some(tree)),
             }
         }
         Ok(None)
     }
 
-    /// Gives each need as many nodes as it counts. Where that can't be, it answers the stuck trail.
+    /// Gives each need as many nodes as it counts. Where that can't be, it answers the stuck tree.
     pub(crate) fn serve_all(
         &mut self,
         alloc: Global,
         needs: &[Need],
-    ) -> Result<Option<Trail>, Memory>
+    ) -> Result<Option<SearchTree>, Memory>
         requires whole { IsWhole self.old }
         requires needs { length (table_in self.old) ≡ length needs.now }
         requires few { length needs.now ≤ MAX_PROMISES }
@@ -267,8 +267,8 @@ impl Giving {
             (IsWanting needs.now (table_in self.new) (owners_in self.new))) }
     {
         for (n, need) in needs.iter().enumerate() {
-            if let Some(trail) = self.serve(alloc, n as u16, need.count)? {
-                return Ok(Some(trail));
+            if let Some(tree) = self.serve(alloc, n as u16, need.count)? {
+                return Ok(Some(tree));
             }
         }
         Ok(None)

@@ -9,7 +9,7 @@ mod lines;
 mod read;
 mod served;
 mod times;
-mod trail;
+mod tree;
 mod waits;
 
 pub use batch::{Batch, Promise, Run};

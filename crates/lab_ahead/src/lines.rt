@@ -1,4 +1,4 @@
-// The lines of a batch, by their fields behind the keyword.
+// The lines of a batch, by their fields after the keyword.
 ghost use Rattle.std.specs.Prelude.{◌≡◌};
 ghost use Rattle.lab_base.specs.Texts.{views};
 ghost use Rattle.lab_ahead.specs.Batches.{PromiseRead, in_order, promise_line, run_line, run_of};
@@ -10,7 +10,7 @@ use line_text::{field_at, short_in};
 /// The last moment.
 const LAST: u64 = 1_000_000_000_000;
 
-/// A type, a number of nodes, the first moment and the one behind the last.
+/// A type, a number of nodes, the first moment and the one after the last.
 type PromiseRead = Result<(Name, (u16, (u64, u64))), Kind>;
 
 fn in_order(read: PromiseRead) -> Result<Promise, Kind>
@@ -33,7 +33,7 @@ fn in_order(read: PromiseRead) -> Result<Promise, Kind>
     }
 }
 
-/// Reads the fields of a `promise` line, behind its keyword.
+/// Reads the fields of a `promise` line, after its keyword.
 pub(crate) fn promise_in(fields: &[&[u8]]) -> Result<Promise, Kind>
     ensures { result ≡ promise_line (views fields.now) }
 {
@@ -55,7 +55,7 @@ fn run_of(read: Result<(Name, (u64, u64)), Kind>) -> Result<Run, Kind>
     }
 }
 
-/// Reads the fields of a `run` line, behind its keyword.
+/// Reads the fields of a `run` line, after its keyword.
 pub(crate) fn run_in(fields: &[&[u8]]) -> Result<Run, Kind>
     ensures { result ≡ run_line (views fields.now) }
 {

@@ -4,7 +4,7 @@ ghost use Rattle.phys_lab.specs.Tables.{rows};
 ghost use Rattle.lab_ahead.specs.Givings.{has_type};
 ghost use Rattle.lab_ahead.specs.Moments.{needs_at};
 ghost use Rattle.lab_ahead.specs.Served.{KnowsTypes, IsRow, promise_at};
-ghost use Rattle.lab_ahead.specs.Trails.{table_of};
+ghost use Rattle.lab_ahead.specs.SearchTrees.{table_of};
 
 use crate::batch::Promise;
 use crate::giving::has_type;

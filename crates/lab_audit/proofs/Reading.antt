@@ -25,7 +25,7 @@ rose_by : (unread : Option (List ℕ)) (a b c : ℕ) → a ≤ b → IfSome unre
 rose_by None a b c le rose = tt
 rose_by (Some name) a b c le rose = Rose_since a b c le rose
 
--- what is told behind readings that all were answered is what was told before
+-- what is told after readings that all were answered is what was told before
 pub same_told : (a b : Seen) → Reads a b None → b.told ≡ a.told
 same_told a b r = r.told ∙ sym (with_steps-nil a.told)
 
@@ -39,7 +39,7 @@ read_on a b c unread r s = record {
   stopped = s.stopped ∙ r.stopped;
 }
 
--- where something is told, a fact about it behind readings that were all answered is one about what was told before
+-- where something is told, a fact about it after readings that were all answered is one about what was told before
 pub told_before : (a b : Seen) (P : Told → Type 0) → Reads a b None → IfSome b.told P → IfSome a.told P
 told_before a b P r h = subst (λ (o : Option Told). IfSome o P) (same_told a b r) h
 

@@ -23,7 +23,7 @@ fn push_piece(text: &mut Text, piece: &Piece<'_>) -> Result<(), Memory>
     }
 }
 
-/// Adds pieces to a text, one behind another.
+/// Adds pieces to a text, one after another.
 pub fn push_pieces(text: &mut Text, pieces: &[Piece<'_>]) -> Result<(), Memory>
     ensures { OnOk result (text.new ≡ text.old ++ flat_map piece_bytes pieces.now) }
 {
@@ -33,7 +33,7 @@ pub fn push_pieces(text: &mut Text, pieces: &[Piece<'_>]) -> Result<(), Memory>
     Ok(())
 }
 
-/// The text of pieces, one behind another.
+/// The text of pieces, one after another.
 pub fn text_of_pieces(alloc: Global, pieces: &[Piece<'_>]) -> Result<Text, Memory>
     ensures { IfOk result (λ text. text ≡ flat_map piece_bytes pieces.now) }
 {

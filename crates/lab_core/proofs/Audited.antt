@@ -16,7 +16,7 @@ use Rattle.lab_core.specs.Moments.{with_more}
 use Rattle.lab_core.specs.Sessions.{OpenSwap, Session, Setting, After, Closed, Open, Terms}
 use Rattle.lab_core.specs.Tells.{AllMove, IsAtRest, opens_of}
 use Rattle.lab_core.proofs.OuterReplies.{breaks_so, of_drill_if}
-use Rattle.lab_core.proofs.OuterSteps.{CommandTells, plain, still_as, tell_behind, unread as unread_so}
+use Rattle.lab_core.proofs.OuterSteps.{CommandTells, plain, still_as, tell_after, unread as unread_so}
 use Rattle.lab_core.proofs.Others.{Stays, both_stay, same_stays}
 use Rattle.lab_core.proofs.Places.{breaks_place, place_as, TellsPlace}
 use Rattle.lab_core.proofs.StepLaws.{begins_stay, broke, step_stays, step_stops}
@@ -33,11 +33,11 @@ module _ (trace : Option (List Event)) (s : LabState) (opens : List OpenSwap) (o
   kept (unread name own_is is) = ap (λ (a : After). a.lab) is
   kept (no_memory wants) = ap (λ (a : After). a.lab) wants.after_is
 
-  -- its steps and the reply, behind an opening
+  -- its steps and the reply, after an opening
   stops : (opening : List Event) → has_outer opening ≡ false → (reply : Reply) → after.reply ≡ Some reply → Audits trace s opens own after → CommandTells commands.Audit opening own reply
-  stops opening quiet reply is (no_lab none d) = plain (tell_behind opening own reply quiet (still_as own replies.NoLab reply (ap has_outer d.nothing) refl (sym (ap (λ (a : After). a.reply) d.after_is) ∙ is)))
+  stops opening quiet reply is (no_lab none d) = plain (tell_after opening own reply quiet (still_as own replies.NoLab reply (ap has_outer d.nothing) refl (sym (ap (λ (a : After). a.reply) d.after_is) ∙ is)))
   stops opening quiet reply is (told report nothing tells after_is) =
-      plain (tell_behind opening own reply quiet (still_as own (replies.Audit report) reply (ap has_outer nothing) refl (sym (ap (λ (a : After). a.reply) after_is) ∙ is)))
+      plain (tell_after opening own reply quiet (still_as own (replies.Audit report) reply (ap has_outer nothing) refl (sym (ap (λ (a : After). a.reply) after_is) ∙ is)))
   stops opening quiet reply is (unread name own_is after_is) = unread_so name refl quiet own_is (sym (same_Some (replies.Unread name) reply (sym (ap (λ (a : After). a.reply) after_is) ∙ is)))
   stops opening quiet reply is (no_memory wants) = none_some reply (sym (ap (λ (a : After). a.reply) wants.after_is) ∙ is)
 

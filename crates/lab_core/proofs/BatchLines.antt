@@ -1,4 +1,4 @@
--- The lines of a batch tell what is so in the lab behind it.
+-- The lines of a batch tell what is so in the lab after it.
 use Rattle.std.proofs.Common.{◌≡◌, inl, inr, arith, ℕ, Bool, true, false, ◌||◌, is_some, List, [], ◌∷◌, ◌++◌, drop, length, Option, Some, None, Result, Ok, Err, refl, sym, ap, subst, ◌∙◌, append_assoc}
 use Rattle.std.specs.Str.{bytes_eq}
 use Rattle.std.proofs.lemmas.Bool.{cases_Bool}
@@ -98,7 +98,7 @@ longer exp = elim (cases_Bool (bytes_eq exp (0 ∷ exp))) [
   | inr no' ↦ no'
 ]
 
--- THE LINES of the runs behind some of them
+-- THE LINES of the runs after some of them
 module _ (rule : RuleNumber) (moment : ℕ) (runs : List Run) where
   pub record At (told : List Reply) (left : List Run) (u : LabState) : Type 0 where
     lines : List Line
@@ -107,7 +107,7 @@ module _ (rule : RuleNumber) (moment : ℕ) (runs : List Run) where
     tell : AllTell (there_in u) lines
     there : is_some u.lab ≡ true
 
-  -- behind the next one, by what is left
+  -- after the next one, by what is left
   next_at : (promises : List Promise) (ends_at : List End) (told : List Reply) (left : List Run) (set : Setting) (s : LabState) (opens : List OpenSwap) (steps : List Event) (after : After) (reply : Reply) → after.reply ≡ Some reply → At told left s
       → IsDoneBy (JudgedNextRun rule moment promises ends_at left (λ entry. has_space set entry) s opens) set s opens steps after → no_runs left ≡ false → At (told ++ reply ∷ []) (drop 1 left) after.lab
   next_at promises ends_at told [] set s opens steps after reply replied at done more_left = absurd (cc more_left)
@@ -126,7 +126,7 @@ module _ (rule : RuleNumber) (moment : ℕ) (runs : List Run) where
   ends_with at replies.Stopped served is = absurd (cc is)
   ends_with at last served is = let same : replies.Served (served_of (at.told ++ last ∷ [])) ≡ replies.Served served = same_Some _ _ is in let back : served_of (at.told ++ last ∷ []) ≡ served = cc same in sym back
 
-  -- behind some of them
+  -- after some of them
   module _ (base : Ground) (trace : Option (List Event)) where
     past_at : (start : Serving) (s : LabState) (opens : List OpenSwap) (own : List Event) (at : Serving) (u : LabState) (to : List OpenSwap) → At start.told start.left s → Past (runs_in_turn rule moment) base trace start s opens own at u to → At at.told at.left u
     past_at start s opens own at u to first none = first

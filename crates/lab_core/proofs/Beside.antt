@@ -1,4 +1,4 @@
--- An experiment whose own settling met no trouble is at rest behind all settlings, whatever became of the others.
+-- An experiment whose own settling met no trouble is at rest after all settlings, whatever became of the others.
 use Rattle.std.proofs.Common.{◌≡◌, inl, inr, ℕ, Bool, true, false, List, [], ◌∷◌, Option, Some, None, refl, sym, ◌∙◌, subst}
 use Rattle.std.specs.Prelude.{is_some}
 use Rattle.std.proofs.lemmas.Option.{same_Some}

@@ -18,7 +18,7 @@ use Rattle.journal_model.specs.Appends.{other_side}
 use Rattle.journal_model.specs.Journals.{Headed, On, head, gate_after, magic}
 use Rattle.journal_model.proofs.Gates.{length_front}
 use Rattle.journal_model.proofs.Traces.{disk_more}
-use Rattle.journal_disk.specs.Compacting.{come_steps, is_unshut}
+use Rattle.journal_disk.specs.Compacting.{come_steps, lacks_closed_gate}
 use Rattle.journal_disk.specs.Compactions.{Compacts, Shifts as ShiftsImages}
 use Rattle.journal_disk.proofs.CompactSteps.{there_come}
 use Rattle.journal_disk.specs.Epochs.{epoch_of, HasEpoch}
@@ -126,11 +126,11 @@ stays_aside : (trace steps : List Event) (j : Journal) (packed : List ℕ) (answ
 stays_aside trace steps j packed answer c =
     let live = side_of j in
     let d = disk live trace in
-    let come = come_steps (other_side live) (is_unshut (disk (other_side live) trace).reads) c.far in
+    let come = come_steps (other_side live) (lacks_closed_gate (disk (other_side live) trace).reads) c.far in
     disk_more live trace steps
     ∙ ap (fold (disk_after live) d) c.steps_are
     ∙ fold-append (disk_after live) d come c.more
-    ∙ ap (λ x. fold (disk_after live) x c.more) (there_come live d (is_unshut (disk (other_side live) trace).reads) c.far)
+    ∙ ap (λ x. fold (disk_after live) x c.more) (there_come live d (lacks_closed_gate (disk (other_side live) trace).reads) c.far)
     ∙ nothing_more (other_side live) live c.more d (compact_last (other_side live) answer c.far c.more c.ends)
 
 -- THE MOVE of a journal that is to move
@@ -192,7 +192,7 @@ module _ (s : LabState) (j : Journal) (told now : Option Told) (work : AtWork th
     abbrev HasPacked : List Event → Type 0
     HasPacked trace = IsAt trace k ps × HasEpoch trace k
 
-    -- its records behind the move
+    -- its records after the move
     has_packed : (t : Told) → told ≡ Some t → Stands the_texts t.trace j s → IfSome now (λ u. HasPacked u.trace)
     has_packed t is stands = subst (λ (o : Option Told). IfSome o (λ x. IsAt x.trace j stands.records → HasEpoch x.trace j → IfSome now (λ u. HasPacked u.trace))) is (says_now stands.records ps are.bytes) stands.at stands.epoch
 

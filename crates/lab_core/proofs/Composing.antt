@@ -27,7 +27,7 @@ use Rattle.lab_core.specs.declared.fault.CoreFault.TheVariants as faults
 use Rattle.lab_core.specs.Controller.{Control, WorksWith}
 use Rattle.lab_tasks.specs.Tasks.{Task, Recover}
 use Rattle.lab_core.specs.LabSteps.{IsDoneBy}
-use Rattle.lab_core.specs.Moments.{IsLengthAt, IsLengthBehind, trace_in}
+use Rattle.lab_core.specs.Moments.{IsLengthAt, IsLengthAfter, trace_in}
 use Rattle.lab_core.specs.Obey.{AllShut, AnswersBy, EndsBy, Obeys, Shuts, Start, start_of, Obeyed, WantsIn, done_as, reply_of, stays_at_work, undone, between as recovering}
 use Rattle.lab_core.specs.Sessions.{OpenSwap, Closed, After, Setting, AreOpenedBy, blames_now, counted_from, ends_swap, name_in, open_by, shut_by}
 use Rattle.lab_core.specs.Lists.{DoesNext, Listing, Past, broken, last_reply, more, none, over}
@@ -145,7 +145,7 @@ module _ {X : Type 0} (l : Listing X) (o : Origin X) (exp : Option (List ℕ)) w
     abbrev start : Start
     start = start_of o.devices new h.to
 
-    length_there : IsLengthBehind trace h.own (limit_of o.old.journal) (length_of new.journal)
+    length_there : IsLengthAfter trace h.own (limit_of o.old.journal) (length_of new.journal)
     length_there = record {
       told = in_trace o.before.told (λ t. IsLengthAt (t ++ h.own) (length_of new.journal)) (if_back o.before.told now.told h.own (λ t. IsLengthAt t (length_of new.journal)) h.told (works_length now new h.to h.works));
       within = omega (arith, h.works.working.work.room.few, h.limit);
@@ -227,7 +227,7 @@ module _ {X : Type 0} (l : Listing X) (o : Origin X) (exp : Option (List ℕ)) w
               broken h.own (b.obeys.0 ++ behind a c) at new.lab h.to (Some reply) lab (append_assoc h.own b.obeys.0 (behind a c)) h.past (next (b.obeys.0 ++ behind a c) (shut_by (Some reply) lab) done)
               (ap (λ r. shut_by r lab) (sym is))
 
-    -- THE PLANT RUNS ON behind a reply
+    -- THE PLANT RUNS ON after a reply
     runs_on : (reply : Reply) → (now.stopped ≡ false → IsErrOf (Ok reply) faults.Stopped ↔ IsTrue then'.stopped) → now.stopped ≡ false → then'.stopped ≡ false
     runs_on reply stops ran = by then'.stopped (stops ran)
       where

@@ -1,4 +1,4 @@
--- The state behind an open swap that was turned to its end.
+-- The state after an open swap that was turned to its end.
 use Rattle.std.proofs.Common.{◌≡◌, ◌↔◌, ℕ, List, [], ◌++◌, Some, IsTrue, Ok, refl, sym, ap, ◌∙◌, subst}
 use Rattle.plant.specs.Events.{Event}
 use Rattle.plant.specs.Seen.{Seen}
@@ -15,7 +15,7 @@ use Rattle.swap_mgr.specs.Managing.{IsPlain}
 use Rattle.swap_mgr.specs.Turns.{IsStop}
 use Rattle.swap_turns.specs.declared.progress.Progress.{Progress}
 use Rattle.script_text.specs.declared.reply.Reply.{Reply}
-use Rattle.lab_core.specs.Breaks.{StartsBehind}
+use Rattle.lab_core.specs.Breaks.{StartsAfter}
 use Rattle.lab_core.specs.Controller.{Control, WorksWith}
 use Rattle.lab_tasks.specs.Tasks.{Finish}
 use Rattle.lab_judge.specs.Judge.{Is}
@@ -109,7 +109,7 @@ module _ (before now : Seen) (old new : Control) (opens : List OpenSwap) (exp : 
     abbrev end_to : Outcome → List OpenSwap
     end_to outcome = place.front ++ place.rest
 
-    end_done : (outcome : Outcome) (lab : LabState) (behind : List Event) (reply : Reply) (session : Session) → EndIs outcome h.end.finished.steps lab → StartsBehind outcome behind → turn_reply place.one.running.swap outcome ≡ Some reply → session ≡ end_session (end_to outcome) outcome
+    end_done : (outcome : Outcome) (lab : LabState) (behind : List Event) (reply : Reply) (session : Session) → EndIs outcome h.end.finished.steps lab → StartsAfter outcome behind → turn_reply place.one.running.swap outcome ≡ Some reply → session ≡ end_session (end_to outcome) outcome
         → IsDone (Is (Ok (Finish exp))) (start_of devices old opens) (h.end.finished.steps ++ behind) (Some reply) lab session
     end_done outcome lab behind reply session is starts reply_is session_is =
         does (Ok (Finish exp)) refl

@@ -19,7 +19,7 @@ use Rattle.lab_core.specs.Controller.{CanWork, Control, WorksWith}
 use Rattle.lab_core.specs.InTurn.{EndsEvent, IsPart, ObeysEvent, ObeysEvents, TellsWhole, is_in, origin_of, stuck_by_journal}
 use Rattle.lab_tasks.specs.Tasks.{Recover}
 use Rattle.lab_core.specs.Obey.{Obeyed}
-use Rattle.lab_core.specs.PlayList.{JudgedEvent, behind_event, events_in_turn}
+use Rattle.lab_core.specs.PlayList.{JudgedEvent, after_event, events_in_turn}
 use Rattle.lab_tasks.specs.Playing.{Playing, first_place}
 use Rattle.lab_core.specs.Sessions.{OpenSwap, blames_now, counted_from, devices_if, name_in, open_at}
 use Rattle.lab_core.proofs.Composing.{begins, comes_on, comes_shut, comes_to_stop, comes_to_want, finished, wants}
@@ -70,7 +70,7 @@ module _ (exp : List ℕ) where
   going text left played = record { text = text; left = left; played = played; ended = None }
 
   abbrev behind : Playing → Reply → Playing
-  behind at reply = behind_event exp at reply
+  behind at reply = after_event exp at reply
 
   abbrev whole : Playing → Reply
   whole at = played_of exp at.played at.ended
@@ -167,7 +167,7 @@ module _ (exp : List ℕ) where
         let on = on_by text event left played ends.0 ends.1 in
         subst (λ (p : Playing). HasComeTo (events_in_turn exp) (origin_of before old opens start devices) (Some exp) then' newer p) on.0 (one_on opens devices within works none ends.0 ends.3 ends.2 on.1)
 
-    -- the controller works on behind `in`
+    -- the controller works on after `in`
     pub works_further : CanWork now new → EndsEvent exp played Event (Ok None) → CanWork then' newer
     works_further can ends = let b = ends.3 can.0 now.faults.devices (omega arith) can.1 in (b.to, b.works (ap not (on_by text event left played ends.0 ends.1).1))
 

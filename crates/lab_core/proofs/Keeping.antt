@@ -9,7 +9,7 @@ use Rattle.script_text.specs.declared.reply.Reply.{Reply}
 use Rattle.script_text.specs.declared.reply.Reply.TheVariants as replies
 use Rattle.lab_core.specs.Sessions.{OpenSwap, After, open_by, shut_by}
 use Rattle.lab_core.specs.Lists.{DoesNext, Ground, Listing, Lists, Past, broken, last_reply, more, none, over, wanting}
-use Rattle.lab_core.proofs.OuterSteps.{Tells, restarts, still, still_as, tell_behind, tells_step}
+use Rattle.lab_core.proofs.OuterSteps.{Tells, restarts, still, still_as, tell_after, tells_step}
 
 module _ {X : Type 0} (l : Listing X) (ground : Ground) (trace : Option (List Event)) where
   -- WHAT HOLDS OF THE PLACES, from one to the next
@@ -56,6 +56,6 @@ module _ {X : Type 0} (l : Listing X) (ground : Ground) (trace : Option (List Ev
     lists_stop start s opens own after reply first (broken front steps at mid between None lab own_is past next after_is) told = let none' : None ≡ Some reply = sym (ap (λ (a : After). a.reply) after_is) ∙ told in absurd (cc none')
     lists_stop start s opens own after reply first (broken front steps at mid between (Some last) lab own_is past next after_is) told =
         subst (λ l. Tells l reply) (sym own_is)
-        (tell_behind front steps reply (past_quiet start s opens front at mid between first past)
+        (tell_after front steps reply (past_quiet start s opens front at mid between first past)
         (last_stops at last reply steps (sym (ap (λ (a : After). a.reply) after_is) ∙ told) (stops front at (past_holds Holds on start s opens front at mid between first past) mid between steps last lab next)))
     lists_stop start s opens own after reply first (wanting at lab to past after_is) told = let none' : None ≡ Some reply = sym (ap (λ (a : After). a.reply) after_is) ∙ told in absurd (cc none')

@@ -40,7 +40,7 @@ use Rattle.lab_judge.proofs.Fits.{is_outer}
 use Rattle.lab_core.proofs.Listings.{IsAboutThese, lists_stay, others_stay, past_stays, same_open, stops}
 use Rattle.lab_core.proofs.Runs.{AreOf, batch_first, batch_refuses, runs_are}
 use Rattle.lab_core.proofs.OuterReplies.{breaks_so, no_drill_of, step_so, of_drill_if}
-use Rattle.lab_core.proofs.OuterSteps.{CommandTells, Tells, no_step_of, plain, still_as, tell_behind, tells_step}
+use Rattle.lab_core.proofs.OuterSteps.{CommandTells, Tells, no_step_of, plain, still_as, tell_after, tells_step}
 use Rattle.lab_core.proofs.Others.{Stays, both_stay, same_stays}
 use Rattle.lab_core.proofs.OpenLaws.{Leaves, leaves}
 use Rattle.lab_tasks.proofs.Busy.{has_busy}
@@ -158,10 +158,10 @@ module _ {X : Type 0} (l : Listing X) (Judged : List OpenSwap → LabState → R
 
   list_stops : (session : Session) (reply : Reply) → after.reply ≡ Some reply → Step session → Tells (opening ++ own) reply
   list_stops Closed reply is (opened mid opens done) =
-      tell_behind opening own reply opens.no_outer (done_stop l (Judged [] mid) (laws.tells [] mid) (ground_by set) (with_more at opening) mid [] own after laws.Holds about laws.about_these (laws.starts [] mid) reply is done)
+      tell_after opening own reply opens.no_outer (done_stop l (Judged [] mid) (laws.tells [] mid) (ground_by set) (with_more at opening) mid [] own after laws.Holds about laws.about_these (laws.starts [] mid) reply is done)
   list_stops Closed reply is (not_opened breaks) = step_stops own after reply is None (Err replies.NoLab) terms set s Closed commands.Status opening (broke refl refl breaks)
   list_stops (Open opens) reply is (none, done) =
-      tell_behind opening own reply (ap has_outer none) (done_stop l (Judged opens s) (laws.tells opens s) (ground_by set) (with_more at opening) s opens own after laws.Holds about laws.about_these (laws.starts opens s) reply is done)
+      tell_after opening own reply (ap has_outer none) (done_stop l (Judged opens s) (laws.tells opens s) (ground_by set) (with_more at opening) s opens own after laws.Holds about laws.about_these (laws.starts opens s) reply is done)
 
   list_stays : (session : Session) (name : List ℕ) → is_some s.lab ≡ true → about name ≡ false → (session ≡ Closed → IsAtRest s name) → Step session → Stays name s after.lab
   list_stays Closed name there apart rests (opened mid opens done) =

@@ -1,4 +1,4 @@
--- The state behind a call, by the steps that it added, in two wordings.
+-- The state after a call, by the steps that it added, in two wordings.
 use Rattle.std.proofs.Common.{◌≡◌, inr, ℕ, Bool, true, false, not, List, [], ◌∷◌, ◌++◌, Option, Some, None, IfSome, Result, Ok, Err, refl, sym, ap, subst, arith}
 use Rattle.std.proofs.lemmas.List.{append-nil}
 use Rattle.lab_base.specs.Counts.{Rose}

@@ -68,7 +68,7 @@ own_ends_none s name (records.Create2 exp top) own = tt
 own_ends_none s name (records.Delete exp) own = tt
 own_ends_none s name entry own = absurd own
 
--- WHAT AN OPEN CONTROLLER DOES leaves each experiment moving whose swap is open behind it
+-- WHAT AN OPEN CONTROLLER DOES leaves each experiment moving whose swap is open after it
 module _ (own : List Event) (after : After) (to : List OpenSwap) (is : after.session ≡ Open to) (s : LabState) (opens : List OpenSwap) (empty : (o : OpenSwap) → Has opens o → s.lab ≡ None → s.experiments ≡ []) (differ : AllDiffer (names_of opens)) (all : AllMove opens s)
     (set : Setting) (command : Command) (count : ℕ) where
   abbrev Fits : Result Task Reply → Type 0

@@ -75,9 +75,9 @@ others_before pairs a x b opens p pairs_are differ q has same =
     Apart-across (λ (o z : Pair). o.0.swap.name ≢ z.0.swap.name) a (x ∷ b) y.0 x (subst (λ l. Apart (λ (o z : Pair). o.0.swap.name ≢ z.0.swap.name) l) pairs_are differ) y.1 (inl refl)
     (ap (λ r. r.swap.name) y.2 ∙ same ∙ ap (λ r. r.swap.name) p.running)
 
-pub others_behind : (pairs a : List Pair) (x : Pair) (b : List Pair) (opens : List OpenSwap) (p : Place a x.0 b opens) → pairs ≡ a ++ x ∷ b → Apart (λ o q. o.0.swap.name ≢ q.0.swap.name) pairs
+pub others_after : (pairs a : List Pair) (x : Pair) (b : List Pair) (opens : List OpenSwap) (p : Place a x.0 b opens) → pairs ≡ a ++ x ∷ b → Apart (λ o q. o.0.swap.name ≢ q.0.swap.name) pairs
     → (q : OpenSwap) → Has p.rest q → name_in q ≢ name_in p.one
-others_behind pairs a x b opens p pairs_are differ q has same =
+others_after pairs a x b opens p pairs_are differ q has same =
     let y = running_has b p.rest p.behind q has in
     Apart-across (λ (o z : Pair). o.0.swap.name ≢ z.0.swap.name) (a ++ x ∷ []) b x y.0 (subst (λ l. Apart (λ (o z : Pair). o.0.swap.name ≢ z.0.swap.name) l) (pairs_are ∙ sym (append_assoc a (x ∷ []) b)) differ) (Has-right a (x ∷ []) x (inl refl)) y.1
     (sym (ap (λ r. r.swap.name) p.running) ∙ sym same ∙ sym (ap (λ r. r.swap.name) y.2))

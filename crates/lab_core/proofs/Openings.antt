@@ -1,4 +1,4 @@
--- The steps of reading the journal, and the state behind them, by the journal's opening and by its records.
+-- The steps of reading the journal, and the state after them, by the journal's opening and by its records.
 use Rattle.std.proofs.Common.{◌≡◌, ◌⊎◌, inl, inr, true, false, ◌∷◌, ℕ, ◌+◌, ◌*◌, ◌<◌, ◌≤◌, ◌^◌, Bool, List, [], ◌++◌, count_by, Option, Some, None, Result, Ok, Err, IfSome, IfOk, refl, sym, ap, subst, ◌∙◌, append_assoc, arith}
 use Rattle.std.specs.Prelude.{length, nat_lt}
 use Rattle.std.proofs.lemmas.List.{append-nil}
@@ -200,7 +200,7 @@ no_journal trace limit j rs side place at (sided, inr (s, lab, full, there)) =
     let on = reads_on trace (side_of j) rs at.opened in
     no_room rs s on.reads (on.live_is ∙ ap On (sym sided)) lab (omega (arith, at.gate, full)) (there ∙ at.gate)
 
--- A NEW JOURNAL: side A is live behind it, with epoch 1
+-- A NEW JOURNAL: side A is live after it, with epoch 1
 other_made : (trace : List Event) (is_short : Bool) → disk B (trace ++ making is_short) ≡ disk B trace
 other_made trace true = disk_more B trace (making true)
 other_made trace false = disk_more B trace (making false)
@@ -267,10 +267,10 @@ made_opening old new limit least opened result made moments possible =
         let o = steps_of t.trace steps (Ok opened) is reads in
         (o, made_ends t.trace steps limit least opened made.records is at o result made.made)
 
--- THE STATES THAT ARE NO JOURNAL, as the sides read behind it
-pub bad_behind : (limit : ℕ) (old new : Option Told) (result : Result Control OpenFault) (side : Side) (place : ℕ) → ReadTold old new limit result → result ≡ Err (faults.Bad side place)
+-- THE STATES THAT ARE NO JOURNAL, as the sides read after it
+pub bad_after : (limit : ℕ) (old new : Option Told) (result : Result Control OpenFault) (side : Side) (place : ℕ) → ReadTold old new limit result → result ≡ Err (faults.Bad side place)
     → IfSome new (λ t. IsNoJournal (disk A t.trace).reads (disk B t.trace).reads limit side place)
-bad_behind limit old new result side place opening is =
+bad_after limit old new result side place opening is =
     subst (λ (o : Option Told). IfSome o (λ t. IsNoJournal (disk A t.trace).reads (disk B t.trace).reads limit side place)) (sym opening.1) (by old opening.2)
   where
     by : (t : Option Told) → IfSome t (λ u. ReadSteps u.trace opening.0 × ReadEnds u.trace opening.0 limit result) → IfSome (with_steps t opening.0) (λ u. IsNoJournal (disk A u.trace).reads (disk B u.trace).reads limit side place)

@@ -49,19 +49,19 @@ module _ (set : Setting) (s : LabState) (opens : List OpenSwap) (exp : List ℕ)
   without_steps : own ≡ [] → Spares own
   without_steps none = subst Spares (sym none) (same_world (lab_in s.lab) e w)
 
-  -- with what stands behind the turn
-  with_behind : (steps behind : List Event) → own ≡ steps ++ behind → has_command behind ≡ false → Spares steps → Spares own
-  with_behind steps behind own_is calm spares =
+  -- with what stands after the turn
+  with_after : (steps behind : List Event) → own ≡ steps ++ behind → has_command behind ≡ false → Spares steps → Spares own
+  with_after steps behind own_is calm spares =
       subst (λ (v : World). SameFor (lab_in s.lab) e w v) (sym (ap (λ (l : List Event). fold world_after w l) own_is ∙ fold-append world_after w steps behind ∙ world_stays behind (fold world_after w steps) calm)) spares
 
   one_turned : Turns s opens exp own after → Spares own
   one_turned d =
-      with_behind d.steps d.behind d.own_is (answer_calm _ _ d.outcome d.behind after d.answered).0
+      with_after d.steps d.behind d.own_is (answer_calm _ _ d.outcome d.behind after d.answered).0
       (turn_elsewhere s d.one.swap.running w e sane d.moves has (λ same. other (same ∙ d.one.name)) d.steps d.outcome after.lab d.turn)
 
   one_ended : EndsSwap s opens exp own after → Spares own
   one_ended d =
-      with_behind d.steps d.behind d.own_is (answer_calm _ _ d.outcome d.behind after d.answered).0
+      with_after d.steps d.behind d.own_is (answer_calm _ _ d.outcome d.behind after d.answered).0
       (finish_elsewhere s d.one.swap.running w e sane d.moves has (λ same. other (same ∙ d.one.name)) d.steps d.outcome after.lab d.finishes)
 
   by_task : (task : Task) (judgement : Result Task Reply) → (Does set s opens (Ok task) own after → Spares own) → IsThisOrRefused task judgement → Does set s opens judgement own after → Spares own

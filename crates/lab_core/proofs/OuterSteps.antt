@@ -41,9 +41,9 @@ broken_tells events told reply (stopped ends is) told_is = restarts ends (sym (s
 broken_tells events told reply (failed quiet missed is) told_is = still_as events replies.Down reply quiet refl (sym is ∙ told_is)
 broken_tells events told reply (unanswered is) told_is = absurd (cc (is, told_is))
 
-pub tell_behind : (front steps : List Event) (reply : Reply) → has_outer front ≡ false → Tells steps reply → Tells (front ++ steps) reply
-tell_behind front steps reply quiet (still none calm) = still (shows is_outer (front ++ steps) front steps false false refl quiet none) calm
-tell_behind front steps reply quiet (restarts ends is) = restarts
+pub tell_after : (front steps : List Event) (reply : Reply) → has_outer front ≡ false → Tells steps reply → Tells (front ++ steps) reply
+tell_after front steps reply quiet (still none calm) = still (shows is_outer (front ++ steps) front steps false false refl quiet none) calm
+tell_after front steps reply quiet (restarts ends is) = restarts
     (record {
       front = front ++ ends.front;
       a = ends.a;
@@ -56,7 +56,7 @@ pub still_steps : (steps : List Event) (reply : Reply) → Tells steps reply →
 still_steps steps reply (still none calm) quiet = none
 still_steps steps reply (restarts ends is) quiet = let both : true ≡ false = ap tells_step (sym is) ∙ quiet in absurd (cc both)
 
--- OF A COMMAND, behind its opening; an audit's one step may be a reading that failed
+-- OF A COMMAND, after its opening; an audit's one step may be a reading that failed
 pub data CommandTells (command : Command) (opening own : List Event) (reply : Reply) : Type 0 where
   plain : Tells (opening ++ own) reply → CommandTells command opening own reply
   unread : (name : List ℕ) → command ≡ commands.Audit → has_outer opening ≡ false → own ≡ Unread name ∷ [] → reply ≡ replies.Unread name → CommandTells command opening own reply

@@ -1,4 +1,4 @@
--- The state behind an append of the controller, however it ended.
+-- The state after an append of the controller, however it ended.
 use Rattle.std.proofs.Common.{◌≡◌, ◌≤◌, ◌+◌, ◌^◌, ◌⊎◌, inl, inr, ℕ, Bool, true, false, nat_le, List, [], ◌∷◌, ◌++◌, length, Option, Some, None, IfSome, OnOk, Result, Ok, Err, refl, sym, ap, ◌∙◌, subst, append_assoc, arith}
 use Rattle.std.proofs.lemmas.Bool.{leb-true}
 use Rattle.std.proofs.lemmas.List.{append-nil}
@@ -211,7 +211,7 @@ module _ (devices : ℕ) (exp : Option (List ℕ)) (before now : Seen) (c new : 
     ]) work.stands;
   }
 
-  -- behind which the plant was started again, or a call of the disk missed
+  -- after which the plant was started again, or a call of the disk missed
   part_so : (told : Reply) (behind : List Event) → Behind (side_of c.journal) (writes.appends.more ++ behind) → Breaks (own ++ behind) (Some told) → (lab : LabState) → Either own lab → IsDone Judges (start_of devices c opens) (own ++ behind) (Some told) lab Closed
   part_so told behind last breaks lab either =
       done_so (own ++ behind) (after_it told lab Closed)

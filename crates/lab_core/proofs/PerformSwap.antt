@@ -1,4 +1,4 @@
--- The state behind a call that begins or turns a swap, by its end.
+-- The state after a call that begins or turns a swap, by its end.
 use Rattle.std.proofs.Common.{◌≡◌, ℕ, true, false, List, [], ◌∷◌, ◌++◌, Option, Some, None, IfSome, Result, Ok, refl, sym, ap, ◌∙◌, subst}
 use Rattle.std.proofs.lemmas.Bool.{false_from_ne_true}
 use Rattle.std.proofs.lemmas.List.{append-nil}
@@ -34,7 +34,7 @@ use Rattle.script_text.specs.declared.reply.FailedEnd.TheVariants as ends
 use Rattle.script_text.specs.declared.reply.Reply.{Reply}
 use Rattle.script_text.specs.declared.reply.Reply.TheVariants as replies
 use Rattle.lab_core.specs.declared.fault.CoreFault.{CoreFault}
-use Rattle.lab_core.specs.Breaks.{StartsBehind}
+use Rattle.lab_core.specs.Breaks.{StartsAfter}
 use Rattle.lab_core.specs.Controller.{Control, WorksWith}
 use Rattle.lab_tasks.specs.Tasks.{Task}
 use Rattle.lab_core.specs.LabSteps.{done_reply, end_session, turn_reply, undone_end}
@@ -130,7 +130,7 @@ LeavesOpen name outcome old new = WereOpen old new × (HasEnded outcome → (o :
 module _ (devices : ℕ) (before now : Seen) (IsJudged : Result Task Reply → Type 0) (old new : Control) (opens : List OpenSwap) (to : Outcome → List OpenSwap) (p : SwapOf) (exp : List ℕ) (steps : List Event) (told : now.told ≡ with_steps before.told steps)
     (sound : IfSome before.told (λ w. IsSound the_texts w.trace → IsSound the_texts (w.trace ++ steps))) (later : IsLater before now) (limit : limit_of new.journal ≡ limit_of old.journal)
     (were : (outcome : Outcome) → LeavesOpen p.name outcome opens (to outcome)) (Is : Outcome → List Event → LabState → Type 0)
-    (done : (outcome : Outcome) (lab : LabState) (behind : List Event) (reply : Reply) (session : Session) → Is outcome steps lab → StartsBehind outcome behind → turn_reply p outcome ≡ Some reply → session ≡ end_session (to outcome) outcome
+    (done : (outcome : Outcome) (lab : LabState) (behind : List Event) (reply : Reply) (session : Session) → Is outcome steps lab → StartsAfter outcome behind → turn_reply p outcome ≡ Some reply → session ≡ end_session (to outcome) outcome
     → IsDone IsJudged (start_of devices old opens) (steps ++ behind) (Some reply) lab session) where
   abbrev Left : Result Reply CoreFault → Type 0
   Left result = Obeyed devices before now IsJudged old new opens (Some exp) result
@@ -141,7 +141,7 @@ module _ (devices : ℕ) (before now : Seen) (IsJudged : Result Task Reply → T
   Leads Stopped = Closes the_texts before.told steps (λ steps lab. Is Stopped steps lab)
   Leads outcome = Is outcome steps new.lab × WorksWith now new (to outcome) × IsLonger old.journal new.journal steps
 
-  on : (outcome : Outcome) (reply : Reply) → ((o : OpenSwap) → Has (to outcome) o → ends_swap (Some reply) (name_in o) ≡ false) → closes reply ≡ false → turn_reply p outcome ≡ Some reply → Open (to outcome) ≡ end_session (to outcome) outcome → StartsBehind outcome [] → (blames_device reply ≡ true → Rose (counted_from opens (Some exp) devices) now.faults.devices)
+  on : (outcome : Outcome) (reply : Reply) → ((o : OpenSwap) → Has (to outcome) o → ends_swap (Some reply) (name_in o) ≡ false) → closes reply ≡ false → turn_reply p outcome ≡ Some reply → Open (to outcome) ≡ end_session (to outcome) outcome → StartsAfter outcome [] → (blames_device reply ≡ true → Rose (counted_from opens (Some exp) devices) now.faults.devices)
       → (blames_now reply ≡ true → Rose before.faults.devices now.faults.devices) → Is outcome steps new.lab × WorksWith now new (to outcome) × IsLonger old.journal new.journal steps → (now.stopped ≡ true → ⊥) → Left (Ok reply)
   on outcome reply stays goes reply_is session_is starts blame here is running =
       goes_on devices before now IsJudged old new opens (to outcome) (Some exp) steps told sound later limit reply goes (as_open (Some exp) (Some reply) opens (to outcome) devices stays (were outcome).0)

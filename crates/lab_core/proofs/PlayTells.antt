@@ -1,4 +1,4 @@
--- The reply to a play tells what is so in the lab behind it.
+-- The reply to a play tells what is so in the lab after it.
 use Rattle.std.proofs.Common.{◌≡◌, arith, ℕ, Bool, true, false, ◌||◌, is_some, List, [], ◌∷◌, length, Option, Some, None, Result, Ok, Err, refl, sym, ap, subst, ◌∙◌}
 use Rattle.std.proofs.lemmas.Option.{same_Some}
 use Rattle.plant.specs.Events.{Event}
@@ -27,7 +27,7 @@ use Rattle.lab_core.specs.Breaks.{Breaks, failed, stopped, unanswered}
 use Rattle.lab_core.specs.Commands.{LabStep, ground_by}
 use Rattle.lab_core.specs.LabSteps.{Does, IfSpace, IsAnswered, IsDoneBy, Swaps, does, done_reply, end_reply, has_space, is_told, no_memory, not_opened, opened}
 use Rattle.lab_core.specs.Lists.{DoesList, Ground, Lists, Past, broken, last_reply, listed, more, no_memory as list_no_memory, none, over, refused as list_refused, set_at, wanting}
-use Rattle.lab_core.specs.PlayList.{JudgedNext, JudgedPlay, behind_event, events_in_turn, none_left}
+use Rattle.lab_core.specs.PlayList.{JudgedNext, JudgedPlay, after_event, events_in_turn, none_left}
 use Rattle.lab_core.specs.PlayTells.{PlayTells, TellsEnded}
 use Rattle.lab_core.specs.Sessions.{After, Closed, Open, OpenSwap, Session, Setting, Terms, names_of, open_by, shut_by}
 use Rattle.lab_core.specs.Tells.{IsThere, is_in, is_of_steps}
@@ -77,20 +77,20 @@ event_made exp s opens (Err refusal) fit = tt
 event_made exp s opens (Ok (Swap own way)) fit = tt
 event_made exp s opens j fit = absurd fit.2
 
--- WHERE IT IS behind some events
+-- WHERE IT IS after some events
 record At (exp : List ℕ) (p : Playing) (u : LabState) : Type 0 where
   on : p.ended ≡ None → IsThere is_in u exp
   still : (reply : Reply) → p.ended ≡ Some reply → is_of_steps reply ≡ false → IsThere is_in u exp
   told : (reply : Reply) → p.ended ≡ Some reply → TellsPlace reply u
 
 module _ (exp : List ℕ) where
-  behind_at : (p : Playing) (u : LabState) (reply : Reply) → TellsPlace reply u → ((name : List ℕ) → reply ≡ replies.In name → name ≡ exp) → (is_of_steps reply ≡ false → IsThere is_in u exp) → p.ended ≡ None → At exp (behind_event exp p reply) u
-  behind_at p u (replies.In name) place named rests going = record {
+  after_at : (p : Playing) (u : LabState) (reply : Reply) → TellsPlace reply u → ((name : List ℕ) → reply ≡ replies.In name → name ≡ exp) → (is_of_steps reply ≡ false → IsThere is_in u exp) → p.ended ≡ None → At exp (after_event exp p reply) u
+  after_at p u (replies.In name) place named rests going = record {
     on = λ same. subst (λ n. IsThere is_in u n) (named name refl) place;
     still = λ reply is none. let none' : None ≡ Some reply = sym going ∙ is in absurd (cc none');
     told = λ reply is. let none' : None ≡ Some reply = sym going ∙ is in absurd (cc none');
   }
-  behind_at p u reply place named rests going = record {
+  after_at p u reply place named rests going = record {
     on = λ is. let none' : Some reply ≡ None = is in absurd (cc none');
     still = λ told is none. rests (ap is_of_steps (same_Some reply told is) ∙ none);
     told = λ told is. subst (λ r. TellsPlace r u) (same_Some reply told is) place;
@@ -101,12 +101,12 @@ module _ (exp : List ℕ) where
   going_on (Some reply) left is = absurd (cc is)
 
   next_at : (p : Playing) (left : List LinkEvent) (set : Setting) (s : LabState) (opens : List OpenSwap) (steps : List Event) (after : After) (reply : Reply) → after.reply ≡ Some reply
-      → IsDoneBy (JudgedNext exp p.text left s opens) set s opens steps after → p.ended ≡ None → IsThere is_in s exp → At exp (behind_event exp p reply) after.lab
+      → IsDoneBy (JudgedNext exp p.text left s opens) set s opens steps after → p.ended ≡ None → IsThere is_in s exp → At exp (after_event exp p reply) after.lab
   next_at p left set s opens steps after reply replied (no_memory wants) going here = let none' : None ≡ Some reply = sym (ap (λ (a : After). a.reply) wants.after_is) ∙ replied in absurd (cc none')
   next_at p [] set s opens steps after reply replied (does j judged d) going here = absurd judged
   next_at p (event ∷ left) set s opens steps after reply replied (does j judged d) going here =
       let fit = event_fits s opens exp p.text event j judged in
-      behind_at p after.lab reply (does_place steps after reply replied set s opens (stand_in exp) (is_busy (names_of opens) exp) (length opens) j fit.0 d)
+      after_at p after.lab reply (does_place steps after reply replied set s opens (stand_in exp) (is_busy (names_of opens) exp) (length opens) j fit.0 d)
       (λ name is. event_in exp set s opens steps after j fit name (replied ∙ ap (λ r. Some r) is) d)
       (λ none'. subst (λ u. IsThere is_in u exp) (sym (does_idle set s opens steps after reply replied none' j (event_made exp s opens j fit) d).lab_same) here) going
 
@@ -136,10 +136,10 @@ module _ (exp : List ℕ) where
         let going = going_on at.ended at.left next.more in
         let here = (past_at start s opens front at mid between first past).on going in
         subst (λ (a : After). PlayTells (there_in a.lab) exp reply) (sym after_is)
-        (whole_so (behind_event exp at last) u reply (next_at at at.left (set_at base next.length) mid between steps (shut_by (Some last) u) last refl next.done going here)
+        (whole_so (after_event exp at last) u reply (next_at at at.left (set_at base next.length) mid between steps (shut_by (Some last) u) last refl next.done going here)
         (ends_with at last (sym (ap (λ (a : After). a.reply) after_is) ∙ replied)))
       where
-        ends_with : (p : Playing) (told : Reply) → last_reply (events_in_turn exp) p (Some told) ≡ Some reply → played_of exp (behind_event exp p told).played (behind_event exp p told).ended ≡ reply
+        ends_with : (p : Playing) (told : Reply) → last_reply (events_in_turn exp) p (Some told) ≡ Some reply → played_of exp (after_event exp p told).played (after_event exp p told).ended ≡ reply
         ends_with p replies.Stopped is = absurd (other (sym (same_Some replies.Stopped reply is)))
         ends_with p told is = same_Some _ _ is
 

@@ -1,4 +1,4 @@
--- The wiring of the experiment behind a play.
+-- The wiring of the experiment after a play.
 use Rattle.std.proofs.Common.{◌≡◌, arith, inl, inr, ℕ, ◌+◌, Bool, true, false, ◌||◌, cond, is_some, List, [], ◌∷◌, ◌++◌, length, drop, Option, Some, None, Result, Ok, Err, refl, sym, ap, subst, ◌∙◌, append_assoc, length-append}
 use Rattle.std.proofs.lemmas.Option.{same_Some}
 use Rattle.plant.specs.Events.{Event}
@@ -52,7 +52,7 @@ use Rattle.lab_core.specs.Commands.{LabStep, ground_by}
 use Rattle.lab_core.specs.LabSteps.{Does, IfSpace, IsAnswered, IsDoneBy, Replies, Swaps, does, done_reply, end_reply, end_session, is_told, no_memory, not_opened, opened, undone_end}
 use Rattle.lab_core.specs.Lists.{DoesList, Ground, Lists, Past, broken, last_reply, listed, more, no_memory as list_no_memory, none, over, refused as list_refused, set_at, wanting}
 use Rattle.lab_core.specs.Moments.{with_more}
-use Rattle.lab_core.specs.PlayList.{JudgedEvent, JudgedNext, JudgedPlay, behind_event, events_in_turn, none_left}
+use Rattle.lab_core.specs.PlayList.{JudgedEvent, JudgedNext, JudgedPlay, after_event, events_in_turn, none_left}
 use Rattle.lab_core.specs.PlayWirings.{AreApplied, AreWiredBy, IsWiredBy, PlayWires, found_there}
 use Rattle.lab_core.specs.Sessions.{After, Closed, Open, OpenSwap, Session, Setting, Terms, names_of, open_by, shut_by}
 use Rattle.lab_core.specs.Tells.{BeginsAt, IsThere, is_in}
@@ -147,7 +147,7 @@ module _ (event : LinkEvent) (text : Wiring) (exp : List ℕ) (opens : List Open
       abbrev new : Mapped
       new = mapped says.wiring says.mapping others
 
-      -- the experiment in the lab behind the record
+      -- the experiment in the lab after the record
       record IsBegun (u : LabState) : Type 0 where
         found_one : find e.name u.experiments ≡ Some (in_phase e (Moving (Some old) (Some new)))
         new_is : p.new ≡ Some new
@@ -265,9 +265,9 @@ module _ (exp : List ℕ) (text : Wiring) (event : LinkEvent) (set : Setting) (s
           change_wired p needed (has_shape exp text event p.1.wiring shaped has) change.wiring change.applied j (subst (IsOver (task_over s p.0 p.1 change.wiring (mapping_in p.1.phase))) (sym change.is) (change_over s (length opens) p.0 p.1 change.wiring (mapping_in p.1.phase))) (asked p needed judged) d
 
 -- one event more
-behind_more : (text : Wiring) (gone : List LinkEvent) (event : LinkEvent) (a b c : Wiring) → AreWiredBy text gone a b → IsWiredBy event text b c → AreWiredBy text (gone ++ event ∷ []) a c
-behind_more text [] event a b c are one = (c, subst (λ (w : Wiring). IsWiredBy event text w c) are one, refl)
-behind_more text (e ∷ gone) event a b c are one = (are.0, are.1, behind_more text gone event are.0 b c are.2 one)
+after_more : (text : Wiring) (gone : List LinkEvent) (event : LinkEvent) (a b c : Wiring) → AreWiredBy text gone a b → IsWiredBy event text b c → AreWiredBy text (gone ++ event ∷ []) a c
+after_more text [] event a b c are one = (c, subst (λ (w : Wiring). IsWiredBy event text w c) are one, refl)
+after_more text (e ∷ gone) event a b c are one = (are.0, are.1, after_more text gone event are.0 b c are.2 one)
 
 -- where wirings have texts and events keep the limits, they are the very wirings that the events leave
 pub all_applied : (text : Wiring) (events : List LinkEvent) (before after : Wiring) → IsSound text → ((event : LinkEvent) → Has events event → KeepsLimits event.what) → HasText the_texts before → AreWiredBy text events before after → AreApplied text events before after
@@ -294,9 +294,9 @@ record Gone (exp : List ℕ) (start : Playing) (first : Wiring) (at : Playing) (
   here : IsWired u exp wiring
 
 module _ (exp : List ℕ) (start : Playing) (first : Wiring) where
-  -- behind the next
+  -- after the next
   module _ (at : Playing) (event : LinkEvent) (left : List LinkEvent) (left_is : at.left ≡ event ∷ left) (s : LabState) (g : Gone exp start first at s) (going : at.ended ≡ None) (opens : List OpenSwap) (after : After) where
-    goes_on : (name : List ℕ) → Wires event at.text g.wiring exp opens (replies.In name) after → Gone exp start first (behind_event exp at (replies.In name)) after.lab
+    goes_on : (name : List ℕ) → Wires event at.text g.wiring exp opens (replies.In name) after → Gone exp start first (after_event exp at (replies.In name)) after.lab
     goes_on name w = record {
       gone = g.gone ++ event ∷ [];
       rest = left;
@@ -305,11 +305,11 @@ module _ (exp : List ℕ) (start : Playing) (first : Wiring) where
       count = length-append g.gone (event ∷ []) ∙ ap (λ n. n + 1) g.count;
       text_same = g.text_same;
       wiring = w.0.0;
-      behind = behind_more start.text g.gone event first g.wiring w.0.0 g.behind (subst (λ (t : Wiring). IsWiredBy event t g.wiring w.0.0) g.text_same w.0.1);
+      behind = after_more start.text g.gone event first g.wiring w.0.0 g.behind (subst (λ (t : Wiring). IsWiredBy event t g.wiring w.0.0) g.text_same w.0.1);
       here = w.0.2;
     }
 
-    ends_so : (told : Reply) → IsWired after.lab exp g.wiring → behind_event exp at told ≡ record at { left = drop 1 at.left; ended = Some told } → Gone exp start first (behind_event exp at told) after.lab
+    ends_so : (told : Reply) → IsWired after.lab exp g.wiring → after_event exp at told ≡ record at { left = drop 1 at.left; ended = Some told } → Gone exp start first (after_event exp at told) after.lab
     ends_so told w same = subst (λ (p : Playing). Gone exp start first p after.lab) (sym same) (record {
       gone = g.gone;
       rest = g.rest;
@@ -322,7 +322,7 @@ module _ (exp : List ℕ) (start : Playing) (first : Wiring) where
       here = w;
     })
 
-    next_by : (told : Reply) → Wires event at.text g.wiring exp opens told after → Gone exp start first (behind_event exp at told) after.lab
+    next_by : (told : Reply) → Wires event at.text g.wiring exp opens told after → Gone exp start first (after_event exp at told) after.lab
     next_by (replies.In name) w = goes_on name w
     next_by told w = ends_so told w refl
 
@@ -337,7 +337,7 @@ module _ (exp : List ℕ) (start : Playing) (first : Wiring) where
         by [] same (does j judged d) = absurd judged
         by (event ∷ left) same (does j judged d) = (event, left, same, event_wired exp at.text event set s opens steps after reply replied mild g.wiring g.here j judged d)
 
-    next_gone : Gone exp start first (behind_event exp at reply) after.lab
+    next_gone : Gone exp start first (after_event exp at reply) after.lab
     next_gone = let e = next_event in next_by at e.0 e.1 e.2 s g going opens after reply e.3
 
     in_open : (name : List ℕ) → reply ≡ replies.In name → after.session ≡ Open opens
@@ -434,7 +434,7 @@ module _ (exp : List ℕ) (from until : ℕ) (text : List ℕ) (base : Ground) (
     lists_here opens own (wanting at u to past after_is) = let none' : None ≡ Some reply = sym (ap (λ (a : After). a.reply) after_is) ∙ replied in absurd (cc none')
     lists_here opens own (broken front steps at mid between None u own_is past next after_is) = let none' : None ≡ Some reply = sym (ap (λ (a : After). a.reply) after_is) ∙ replied in absurd (cc none')
     lists_here opens own (broken front steps at mid between (Some last) u own_is past next after_is) =
-        subst (λ (a : After). PlayWires (found_there a.lab exp) s exp from until text reply) (sym after_is) (whole_at u (behind_event exp at last) gone (whole_is last refl not_stopped) (all last refl))
+        subst (λ (a : After). PlayWires (found_there a.lab exp) s exp from until text reply) (sym after_is) (whole_at u (after_event exp at last) gone (whole_is last refl not_stopped) (all last refl))
       where
         told_is : last_reply (events_in_turn exp) at (Some last) ≡ Some reply
         told_is = sym (ap (λ (a : After). a.reply) after_is) ∙ replied
@@ -445,11 +445,11 @@ module _ (exp : List ℕ) (from until : ℕ) (text : List ℕ) (base : Ground) (
             let both : false ≡ true = ap is_played same ∙ played in
             cc both
 
-        whole_is : (told : Reply) → last ≡ told → (last ≡ replies.Stopped → ⊥) → played_of exp (behind_event exp at told).played (behind_event exp at told).ended ≡ reply
+        whole_is : (told : Reply) → last ≡ told → (last ≡ replies.Stopped → ⊥) → played_of exp (after_event exp at told).played (after_event exp at told).ended ≡ reply
         whole_is replies.Stopped is other = absurd (other is)
         whole_is told is other = same_Some _ reply (ap (λ r. last_reply (events_in_turn exp) at (Some r)) (sym is) ∙ told_is)
 
-        calm : (told : Reply) → last ≡ told → played_of exp (behind_event exp at told).played (behind_event exp at told).ended ≡ reply → closes told ≡ false
+        calm : (told : Reply) → last ≡ told → played_of exp (after_event exp at told).played (after_event exp at told).ended ≡ reply → closes told ≡ false
         calm (replies.In name) is same = refl
         calm told is same = ap closes same ∙ mild
 
@@ -459,10 +459,10 @@ module _ (exp : List ℕ) (from until : ℕ) (text : List ℕ) (base : Ground) (
         going : at.ended ≡ None
         going = going_on exp at.ended at.left next.more
 
-        gone : Here (behind_event exp at last) u
+        gone : Here (after_event exp at last) u
         gone = next_gone exp start starts.experiment.wiring at mid (past_here opens front at mid between past) going (set_at base next.length) between steps (shut_by (Some last) u) last refl mildly next.done
 
-        all : (told : Reply) → last ≡ told → (behind_event exp at told).ended ≡ None → (behind_event exp at told).left ≡ []
+        all : (told : Reply) → last ≡ told → (after_event exp at told).ended ≡ None → (after_event exp at told).left ≡ []
         all (replies.In name) is none' =
             let both : Closed ≡ Open between =
             in_open exp start starts.experiment.wiring at mid (past_here opens front at mid between past) going (set_at base next.length) between steps (shut_by (Some last) u) last refl mildly next.done name is in
@@ -489,7 +489,7 @@ pub play_wires : (terms : Terms) (at : Option (List Event)) (set : Setting) (s :
     → (mid : LabState) × BeginsAt session s opening mid × PlayWires (found_there after.lab exp) mid exp from until text (replies.Played name count last closing blaming)
 play_wires terms at set s session exp name from until lines count text last closing blaming opening own after is mild step = step_wires terms at set s exp from until lines text opening own after _ is refl mild session step
 
--- WHAT IS SO of the experiment behind it, by what follows from that
+-- WHAT IS SO of the experiment after it, by what follows from that
 pub wires_so : (Was Is : Experiment → Type 0) → ((e : Experiment) → Was e → Is e) → (s : LabState) (exp : List ℕ) (from until : ℕ) (text : List ℕ) (reply : Reply) → PlayWires Was s exp from until text reply → PlayWires Is s exp from until text reply
 wires_so Was Is so s exp from until text reply w = record {
   script = w.script;

@@ -1,4 +1,4 @@
--- The nodes that are left for promises, before and behind a swap-in.
+-- The nodes that are left for promises, before and after a swap-in.
 use Rattle.std.specs.Prelude.{◌↔◌, filter, slice_index_or}
 use Rattle.std.proofs.Common.{◌≡◌, ◌⊎◌, inl, inr, ℕ, ◌<◌, ◌≤◌, eqb, eqb-true, Bool, true, false, cond, ◌||◌, List, [], ◌∷◌, ◌++◌, length, map, Option, Some, None, refl, sym, ◌∙◌, ap, subst, arith}
 use Rattle.std.proofs.lemmas.Bool.{cases_Bool}
@@ -21,7 +21,7 @@ use Rattle.lab_model.specs.Wants.{node_name}
 use Rattle.lab_ahead.specs.declared.batch.Promise.{Promise}
 use Rattle.lab_ahead.specs.declared.ends.End.{End}
 use Rattle.lab_ahead.specs.declared.fitting.Need.{Need}
-use Rattle.lab_ahead.specs.Ends.{IsLeftAt, end_of, is_placed, left_for}
+use Rattle.lab_ahead.specs.Ends.{IsLeftAt, run_end, is_placed, left_for}
 use Rattle.lab_ahead.specs.Givings.{Fits}
 use Rattle.lab_ahead.specs.Moments.{FitsAt, left_at, needs_at}
 use Rattle.records_model.specs.Labs.{in_phase}
@@ -90,13 +90,13 @@ end_step : (b : Bool) (at : ℕ) (o more : Option ℕ) (found : ℕ) → (o ≡ 
 end_step true at o more found later is = is
 end_step false at o more found later is = later is
 
-end_more : (ends : List End) (new : End) (exp : List ℕ) (found : ℕ) → end_of ends exp ≡ Some found → end_of (ends ++ new ∷ []) exp ≡ Some found
+end_more : (ends : List End) (new : End) (exp : List ℕ) (found : ℕ) → run_end ends exp ≡ Some found → run_end (ends ++ new ∷ []) exp ≡ Some found
 end_more [] new exp found is = absurd (cc is)
-end_more (x ∷ ends) new exp found is = end_step (same_name x.exp exp) x.at (end_of ends exp) (end_of (ends ++ new ∷ []) exp) found (end_more ends new exp found) is
+end_more (x ∷ ends) new exp found is = end_step (same_name x.exp exp) x.at (run_end ends exp) (run_end (ends ++ new ∷ []) exp) found (end_more ends new exp found) is
 
-end_new : (ends : List End) (new : End) → same_name new.exp new.exp ≡ true → ((x : End) → Has ends x → same_name x.exp new.exp ≡ false) → end_of (ends ++ new ∷ []) new.exp ≡ Some new.at
+end_new : (ends : List End) (new : End) → same_name new.exp new.exp ≡ true → ((x : End) → Has ends x → same_name x.exp new.exp ≡ false) → run_end (ends ++ new ∷ []) new.exp ≡ Some new.at
 end_new [] new own none = ap (λ b. cond b (Some new.at) None) own
-end_new (x ∷ ends) new own none = ap (λ b. cond b (Some x.at) (end_of (ends ++ new ∷ []) new.exp)) (none x (inl refl)) ∙ end_new ends new own (λ y has. none y (inr has))
+end_new (x ∷ ends) new own none = ap (λ b. cond b (Some x.at) (run_end (ends ++ new ∷ []) new.exp)) (none x (inl refl)) ∙ end_new ends new own (λ y has. none y (inr has))
 
 -- A SWAP-IN of one that was out
 module _ (law : LeftNodes) (lab : Lab) (front rest : List Experiment) (e : Experiment) (out : e.phase ≡ Out) (mapping : Mapping) (tags : List VlanId) (ends : List End) (new : End) (named : new.exp ≡ e.name)
@@ -144,7 +144,7 @@ module _ (law : LeftNodes) (lab : Lab) (front rest : List Experiment) (e : Exper
   still_left exps t (inl is) = inl is
   still_left exps t (inr one) = inr (one.0, one.1, one.2, end_more ends new one.0 one.1 one.3, one.4)
 
-  -- what is left at a moment before, is left behind
+  -- what is left at a moment before, is left after
   off_left : (t : ℕ) (node : NodeId) (places : List (NodeId × List ℕ)) → places_node node.0 (claimed inside New) ≡ false → Has (left_at (left_for (claimers was) ends places) t) node → Has (left_at (left_for (claimers now) later []) t) node
   off_left t node places not_placed has =
       let x = (law (claimers was) ends places t node).0 has in
@@ -157,7 +157,7 @@ module _ (law : LeftNodes) (lab : Lab) (front rest : List Experiment) (e : Exper
   on_left : (t : ℕ) (node : NodeId) (places : List (NodeId × List ℕ)) → new.at ≤ t → places_node node.0 (claimed inside New) ≡ true → Has (left_at (left_for (claimers was) ends places) t) node → Has (left_at (left_for (claimers now) later []) t) node
   on_left t node places ended is_on has =
       let x = (law (claimers was) ends places t node).0 has in
-      let found : end_of later e.name ≡ Some new.at = ap (end_of later) (sym named) ∙ end_new ends new ((bytes_eq-Decides new.exp new.exp).1 refl) none in
+      let found : run_end later e.name ≡ Some new.at = ap (run_end later) (sym named) ∙ end_new ends new ((bytes_eq-Decides new.exp new.exp).1 refl) none in
       (law (claimers now) later [] t node).1 (
         number was now node.0 x.0,
         refl,
@@ -168,7 +168,7 @@ module _ (law : LeftNodes) (lab : Lab) (front rest : List Experiment) (e : Exper
   pub in_span : (promises : List Promise) (t : ℕ) → FitsAt lab (left_for (claimers was) ends mapping.places) promises t → FitsAt lab (left_for (claimers now) later []) promises t
   in_span promises t fits = fits_more lab _ _ (needs_at promises t) (λ node has. off_left t node mapping.places ((law (claimers was) ends mapping.places t node).0 has).1 has) fits
 
-  -- BEHIND ITS END they fit as they did before it
+  -- AFTER ITS END they fit as they did before it
   pub past_span : (promises : List Promise) (t : ℕ) → new.at ≤ t → FitsAt lab (left_for (claimers was) ends []) promises t → FitsAt lab (left_for (claimers now) later []) promises t
   past_span promises t ended fits = fits_more lab _ _ (needs_at promises t) (λ node has. by node has (cases_Bool (places_node node.0 (claimed inside New)))) fits
     where

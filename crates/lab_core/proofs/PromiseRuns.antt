@@ -54,10 +54,10 @@ use Rattle.lab_tasks.specs.Mappings.{in_slot, task_in}
 use Rattle.lab_judge.specs.Searches.{IsFound, need_mapping}
 use Rattle.lab_judge.specs.Serving.{JudgedBatch, IsTested, IsTestedAs, JudgedPlace, JudgedRunAt, JudgedTest, Serving, claimers_of, fits, full, span_of, waits}
 use Rattle.lab_judge.proofs.Fits.{is_outer}
-use Rattle.lab_core.specs.BatchList.{JudgedNextRun, behind_run, runs_in_turn, with_end}
+use Rattle.lab_core.specs.BatchList.{JudgedNextRun, after_run, runs_in_turn, with_end}
 use Rattle.lab_core.specs.LabSteps.{Does, IfSpace, IsAnswered, IsDoneBy, Swaps, does, done_reply, end_reply, end_session, has_space, is_told, no_memory, undone_end}
 use Rattle.lab_core.specs.Lists.{Ground, Past, more, none, set_at}
-use Rattle.lab_core.specs.Promises.{AreKept, is_stuck_reply, left_behind, some_stuck}
+use Rattle.lab_core.specs.Promises.{AreKept, is_stuck_reply, left_for_promises, some_stuck}
 use Rattle.lab_core.specs.Sessions.{OpenSwap, Open, Setting, After, names_of, open_by}
 use Rattle.lab_core.proofs.PromiseNodes.{LeftNodes, in_span, past_span}
 use Rattle.lab_core.proofs.Runs.{FitsRun, batch_first, run_here}
@@ -393,22 +393,22 @@ module _ (nodes : LeftNodes) (moment : ℕ) (s u : LabState) (at : Serving) (run
   enters ends ends_are told left = record {
     sane = sane;
     kept = λ end t has from to.
-        subst (λ l. FitsAt (lab_in u.lab) (left_behind u l) at.promises t) (sym ends_are)
-        (subst (λ (x : LabState). FitsAt (lab_in x.lab) (left_behind x (at.ends ++ new ∷ [])) at.promises t) lists_are (fits_now end t (subst (λ l. Has l end) ends_are has) from to));
+        subst (λ l. FitsAt (lab_in u.lab) (left_for_promises u l) at.promises t) (sym ends_are)
+        (subst (λ (x : LabState). FitsAt (lab_in x.lab) (left_for_promises x (at.ends ++ new ∷ [])) at.promises t) lists_are (fits_now end t (subst (λ l. Has l end) ends_are has) from to));
     in_still = λ end g has found_now. in_now end g (subst (λ l. Has l end) ends_are has) found_now;
   }
 
 module _ (nodes : LeftNodes) (law : FoundShaped) (rule : RuleNumber) (moment : ℕ) where
   -- one run more
-  one_more : (s u : LabState) (at : Serving) (run : Run) (left : List Run) (reply : Reply) → at.left ≡ run ∷ left → Stands moment s at → is_stuck_reply reply ≡ false → Leaves moment at.promises at.ends run s reply u → Stands moment u (behind_run moment at reply)
+  one_more : (s u : LabState) (at : Serving) (run : Run) (left : List Run) (reply : Reply) → at.left ≡ run ∷ left → Stands moment s at → is_stuck_reply reply ≡ false → Leaves moment at.promises at.ends run s reply u → Stands moment u (after_run moment at reply)
   one_more s u at run left reply left_is st calm (stuck is) = absurd (cc (sym is ∙ calm))
   one_more s u at run left reply left_is st calm (same u_is other) =
       let ends_are : with_end moment at.left reply at.ends ≡ at.ends = ap (λ l. with_end moment l reply at.ends) left_is ∙ only_in moment run left at.ends reply other in
       record {
         sane = subst Sane (sym u_is) st.sane;
         kept = λ end t has from to.
-            subst (λ (x : LabState). FitsAt (lab_in x.lab) (left_behind x (with_end moment at.left reply at.ends)) at.promises t) (sym u_is)
-            (subst (λ l. FitsAt (lab_in s.lab) (left_behind s l) at.promises t) (sym ends_are) (st.kept end t (subst (λ l. Has l end) ends_are has) from to));
+            subst (λ (x : LabState). FitsAt (lab_in x.lab) (left_for_promises x (with_end moment at.left reply at.ends)) at.promises t) (sym u_is)
+            (subst (λ l. FitsAt (lab_in s.lab) (left_for_promises s l) at.promises t) (sym ends_are) (st.kept end t (subst (λ l. Has l end) ends_are has) from to));
         in_still = λ end e has found. st.in_still end e (subst (λ l. Has l end) ends_are has) (ap (λ (x : LabState). find end.exp x.experiments) (sym u_is) ∙ found);
       }
   one_more s u at run left reply left_is st calm (entered lab e m tags is_lab found out u_is fit exp reply_is sane) =
@@ -422,7 +422,7 @@ module _ (nodes : LeftNodes) (law : FoundShaped) (rule : RuleNumber) (moment : �
         by at'.left refl (past_stands front at' mid between past both.0) both.1 next.done
       where
         by : (left : List Run) → at'.left ≡ left → Stands moment mid at' → is_stuck_reply reply ≡ false
-            → IsDoneBy (JudgedNextRun rule moment at'.promises at'.ends left (λ entry. has_space (set_at base next.length) entry) mid between) (set_at base next.length) mid between steps (open_by reply lab to') → Stands moment lab (behind_run moment at' reply)
+            → IsDoneBy (JudgedNextRun rule moment at'.promises at'.ends left (λ entry. has_space (set_at base next.length) entry) mid between) (set_at base next.length) mid between steps (open_by reply lab to') → Stands moment lab (after_run moment at' reply)
         by [] is st calm_here (does j judged d) = absurd judged
         by (run ∷ left) is st calm_here (does j judged d) =
             one_more mid lab at' run left reply is st calm_here (run_leaves law moment at'.promises at'.ends run rule (set_at base next.length) mid st.sane between to' steps reply lab j judged d)

@@ -11,7 +11,7 @@ use Rattle.script_text.specs.declared.reply.Reply.{Reply}
 use Rattle.script_text.specs.declared.reply.Reply.TheVariants as replies
 use Rattle.script_text.specs.declared.reply.Served.{Served}
 use Rattle.lab_judge.specs.Serving.{Serving, first_run}
-use Rattle.lab_core.specs.BatchList.{behind_run, runs_in_turn, with_end}
+use Rattle.lab_core.specs.BatchList.{after_run, runs_in_turn, with_end}
 use Rattle.lab_core.specs.Commands.{Serves, ground_by}
 use Rattle.lab_core.specs.Lists.{Ground, Past, broken, listed, more, no_memory, none, over, refused, wanting}
 use Rattle.lab_core.specs.Promises.{AreKept, KeepsPromises, end_if, ends_of}
@@ -21,7 +21,7 @@ use Rattle.lab_core.proofs.PromiseNodes.{LeftNodes}
 use Rattle.lab_core.proofs.PromiseRuns.{keeps_promises}
 use Rattle.lab_core.proofs.Runs.{batch_first, batch_refuses}
 
--- THE PLACE behind some replies
+-- THE PLACE after some replies
 abbrev rest_of : List Run → List Reply → List Run
 rest_of runs [] = runs
 rest_of [] (reply ∷ told) = []
@@ -34,10 +34,10 @@ rest_more [] (x ∷ told) reply = refl
 rest_more (run ∷ runs) (x ∷ told) reply = rest_more runs told reply
 
 module _ (moment : ℕ) where
-  behind_front : (left : List Run) (reply : Reply) (front ends : List End) → with_end moment left reply (front ++ ends) ≡ front ++ with_end moment left reply ends
-  behind_front [] reply front ends = refl
-  behind_front (run ∷ left) (replies.In exp) front ends = append_assoc front ends _
-  behind_front (run ∷ left) reply front ends = refl
+  after_front : (left : List Run) (reply : Reply) (front ends : List End) → with_end moment left reply (front ++ ends) ≡ front ++ with_end moment left reply ends
+  after_front [] reply front ends = refl
+  after_front (run ∷ left) (replies.In exp) front ends = append_assoc front ends _
+  after_front (run ∷ left) reply front ends = refl
 
   first_end : (run : Run) (left : List Run) (reply : Reply) → end_if moment run reply ++ [] ≡ with_end moment (run ∷ left) reply []
   first_end run left (replies.In exp) = refl
@@ -47,14 +47,14 @@ module _ (moment : ℕ) where
   ends_more [] [] reply = refl
   ends_more (run ∷ runs) [] reply = first_end run runs reply
   ends_more [] (x ∷ told) reply = refl
-  ends_more (run ∷ runs) (x ∷ told) reply = ap (λ l. end_if moment run x ++ l) (ends_more runs told reply) ∙ sym (behind_front (rest_of runs told) reply (end_if moment run x) (ends_of moment runs told))
+  ends_more (run ∷ runs) (x ∷ told) reply = ap (λ l. end_if moment run x ++ l) (ends_more runs told reply) ∙ sym (after_front (rest_of runs told) reply (end_if moment run x) (ends_of moment runs told))
 
   record IsPlace (batch : Batch) (at : Serving) : Type 0 where
     promises : at.promises ≡ batch.promises
     left : at.left ≡ rest_of batch.runs at.told
     ends : at.ends ≡ ends_of moment batch.runs at.told
 
-  place_on : (batch : Batch) (at : Serving) (reply : Reply) → IsPlace batch at → IsPlace batch (behind_run moment at reply)
+  place_on : (batch : Batch) (at : Serving) (reply : Reply) → IsPlace batch at → IsPlace batch (after_run moment at reply)
   place_on batch at reply is = record {
     promises = is.promises;
     left = ap (drop 1) is.left ∙ sym (rest_more batch.runs at.told reply);

@@ -1,4 +1,4 @@
--- The state behind `recover`, by that behind the settling of all that moves and has no open swap.
+-- The state after `recover`, by that after the settling of all that moves and has no open swap.
 use Rattle.std.proofs.Common.{◌≡◌, ◌≢◌, ◌↔◌, ◌⊎◌, inl, inr, IsErrOf, IsTrue, Result, ℕ, Bool, true, false, List, [], ◌∷◌, ◌++◌, Option, Some, None, Ok, Err, refl, sym, ap, ◌∙◌, subst}
 use Rattle.std.specs.Prelude.{if◌then◌else◌}
 use Rattle.std.proofs.lemmas.List.{append-nil}
@@ -32,7 +32,7 @@ use Rattle.recovery.specs.declared.fault.SettleFault.{SettleFault}
 use Rattle.recovery.specs.declared.fault.SettleFault.TheVariants as settling
 use Rattle.recovery.specs.declared.all.Settled.{Settled}
 use Rattle.lab_core.specs.declared.fault.CoreFault.TheVariants as faults
-use Rattle.lab_core.specs.Breaks.{Breaks, StartsBehind, stopped, failed}
+use Rattle.lab_core.specs.Breaks.{Breaks, StartsAfter, stopped, failed}
 use Rattle.lab_core.specs.Controller.{Control, WorksWith}
 use Rattle.lab_tasks.specs.Tasks.{Recover}
 use Rattle.lab_judge.specs.Judge.{Is}
@@ -120,7 +120,7 @@ module _ (devices : ℕ) (exp : Option (List ℕ)) (before now : Seen) (old new 
       (works_by first.past first.outcomes (λ p has. due_idle busy old.lab.experiments p (subst (λ (l : List Swap). Has l p) (sym first.all) (Has-left first.past first.rest p has))) h) h.longer runs
 
   -- it broke off
-  broken_so : (outcome : Outcome) (steps behind : List Event) (reply : Reply) → (behind ≡ []) ⊎ StartsBehind outcome behind → Breaks (steps ++ behind) (Some reply) → (lab : LabState) → Broken outcome steps lab
+  broken_so : (outcome : Outcome) (steps behind : List Event) (reply : Reply) → (behind ≡ []) ⊎ StartsAfter outcome behind → Breaks (steps ++ behind) (Some reply) → (lab : LabState) → Broken outcome steps lab
       → IsDone (Is (Ok Recover)) (start_of devices old opens) (steps ++ behind) (Some reply) lab Closed
   broken_so outcome steps behind reply starts breaks lab broken = does (Ok Recover) refl (broken_off (within outcome steps behind refl broken starts) breaks refl)
 

@@ -1,4 +1,4 @@
--- The state behind the beginning of a swap, and behind a whole swap: its beginning, and its turns to its end.
+-- The state after the beginning of a swap, and after a whole swap: its beginning, and its turns to its end.
 use Rattle.std.proofs.Common.{◌≡◌, ◌≢◌, inl, inr, ◌≤◌, ◌+◌, ◌*◌, ◌^◌, ◌↔◌, ℕ, Bool, true, false, nat_le, List, [], ◌∷◌, ◌++◌, length, append_assoc, Option, Some, IfSome, IsTrue, Result, Ok, Err, refl, sym, ap, ◌∙◌, subst, arith}
 use Rattle.std.proofs.lemmas.Bool.{leb-true}
 use Rattle.std.proofs.lemmas.List.{append-nil, map-append}
@@ -40,7 +40,7 @@ use Rattle.swap_turns.specs.Whole.{SwapSteps}
 use Rattle.swap_turns.specs.Causes.{IsCaused, IsLater}
 use Rattle.swap_turns.specs.Closing.{Closes}
 use Rattle.swap_turns.specs.Legs.{Forth, Undo, Settling}
-use Rattle.swap_turns.proofs.Closing.{closes_behind}
+use Rattle.swap_turns.proofs.Closing.{closes_after}
 use Rattle.swap_turns.proofs.Pushing.{rose_later}
 use Rattle.swap_turns.proofs.Telling.{if_back, if_both}
 use Rattle.swap_mgr.specs.Managing.{HasOpened, IfNothingSent, IfSent, IsAfterOpening, IsStopOpening}
@@ -54,7 +54,7 @@ use Rattle.script_text.specs.declared.reply.FailedEnd.TheVariants as ends
 use Rattle.script_text.specs.declared.reply.Reply.{Reply}
 use Rattle.script_text.specs.declared.reply.Reply.TheVariants as replies
 use Rattle.lab_core.specs.declared.fault.CoreFault.TheVariants as faults
-use Rattle.lab_core.specs.Breaks.{StartsBehind}
+use Rattle.lab_core.specs.Breaks.{StartsAfter}
 use Rattle.lab_core.specs.Controller.{Control, WorksWith}
 use Rattle.lab_tasks.specs.Tasks.{Swap, BeginOnly, IsSwapBy}
 use Rattle.lab_tasks.specs.Mappings.{begun_as}
@@ -121,7 +121,7 @@ has_open now c opens exp works o has is =
 
 -- WHAT IS DONE of a record for which there is space, by its beginning alone or by the whole swap
 module _ (devices : ℕ) (old : Control) (opens : List OpenSwap) (exp : List ℕ) (way : Way) (p : SwapOf) (name : p.name ≡ exp) (move : Move) (says : Says the_texts old.lab (Begin exp way) move) (moves : (state : LabState) → moved old.lab move ≡ Some state → Moves p state)
-    (space : has_space (start_of devices old opens).set (Begin exp way) ≡ true) (outcome : Outcome) (steps : List Event) (lab : LabState) (behind : List Event) (reply : Reply) (session : Session) (starts : StartsBehind outcome behind) where
+    (space : has_space (start_of devices old opens).set (Begin exp way) ≡ true) (outcome : Outcome) (steps : List Event) (lab : LabState) (behind : List Event) (reply : Reply) (session : Session) (starts : StartsAfter outcome behind) where
   abbrev after : After
   after = record { reply = Some reply; lab = lab; session = session }
 
@@ -218,7 +218,7 @@ module _ (devices : ℕ) (before now : Seen) (old new : Control) (opens : List O
   abbrev BegunIs : Outcome → List Event → LabState → Type 0
   BegunIs outcome steps lab = BeginSteps old.lab (Begin exp way) h.move steps lab outcome
 
-  begun_done : (outcome : Outcome) (lab : LabState) (behind : List Event) (reply : Reply) (session : Session) → BegunIs outcome h.begun.steps lab → StartsBehind outcome behind → turn_reply h.swap outcome ≡ Some reply → session ≡ end_session (begun_to outcome) outcome
+  begun_done : (outcome : Outcome) (lab : LabState) (behind : List Event) (reply : Reply) (session : Session) → BegunIs outcome h.begun.steps lab → StartsAfter outcome behind → turn_reply h.swap outcome ≡ Some reply → session ≡ end_session (begun_to outcome) outcome
       → IsDone (Is (Ok (BeginOnly exp way))) (start_of devices old opens) (h.begun.steps ++ behind) (Some reply) lab session
   begun_done outcome lab behind reply session is starts reply_is session_is = only_done devices old opens exp way h.swap h.name h.move h.says h.moves h.space outcome h.begun.steps lab behind reply session starts is reply_is session_is
 
@@ -300,9 +300,9 @@ module _ (devices : ℕ) (before mid now : Seen) (old between new : Control) (op
 
   closes : (outcome : Outcome) → Closes the_texts mid.told end_steps (λ steps lab. Finishes between.lab f.end.swap steps outcome lab) → Closes the_texts before.told all_steps (λ steps lab. WholeIs outcome steps lab)
   closes outcome leaves =
-      closes_behind the_texts before.told mid.told h.begun.steps end_steps (λ steps lab. Finishes between.lab f.end.swap steps outcome lab) (λ steps lab. WholeIs outcome steps lab) h.begun.told h.begun.sound (λ lab is. steps_as outcome lab is) leaves
+      closes_after the_texts before.told mid.told h.begun.steps end_steps (λ steps lab. Finishes between.lab f.end.swap steps outcome lab) (λ steps lab. WholeIs outcome steps lab) h.begun.told h.begun.sound (λ lab is. steps_as outcome lab is) leaves
 
-  whole_done' : (outcome : Outcome) (lab : LabState) (behind : List Event) (reply : Reply) (session : Session) → WholeIs outcome all_steps lab → StartsBehind outcome behind → turn_reply h.swap outcome ≡ Some reply → session ≡ end_session (whole_to outcome) outcome
+  whole_done' : (outcome : Outcome) (lab : LabState) (behind : List Event) (reply : Reply) (session : Session) → WholeIs outcome all_steps lab → StartsAfter outcome behind → turn_reply h.swap outcome ≡ Some reply → session ≡ end_session (whole_to outcome) outcome
       → IsDone (Is (Ok (Swap exp way))) (start_of devices old opens) (all_steps ++ behind) (Some reply) lab session
   whole_done' outcome lab behind reply session is starts reply_is session_is =
       whole_done devices old opens exp way h.swap h.name h.move h.says h.moves h.space outcome all_steps lab behind reply session starts is

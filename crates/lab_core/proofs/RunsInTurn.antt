@@ -27,7 +27,7 @@ use Rattle.lab_tasks.specs.Tasks.{Recover}
 use Rattle.lab_core.specs.LabSteps.{has_space}
 use Rattle.lab_core.specs.Obey.{Obeyed, start_of}
 use Rattle.lab_core.specs.Queues.{EndsRun, ObeysRun, ObeysRuns, ends_if, first_place, runs_from}
-use Rattle.lab_core.specs.BatchList.{JudgedRun, behind_run, runs_in_turn, with_end}
+use Rattle.lab_core.specs.BatchList.{JudgedRun, after_run, runs_in_turn, with_end}
 use Rattle.lab_judge.specs.Serving.{Serving}
 use Rattle.lab_core.specs.Sessions.{OpenSwap, counted_from, devices_if, name_in, names_of, open_at}
 use Rattle.lab_core.proofs.Composing.{begins, comes_on, comes_shut, comes_to_stop, comes_to_want, finished, wants}
@@ -56,7 +56,7 @@ tells rule moment = record {
   ends = λ at. refl;
 }
 
--- the ends behind a reply
+-- the ends after a reply
 end_noted : (moment : ℕ) (run : Run) (left : List Run) (ends : List End) (reply : Reply) → is_in reply ≡ true → with_end moment (run ∷ left) reply ends ≡ ends ++ record { exp = run.exp; at = moment + run.length } ∷ []
 end_noted moment run left ends (replies.In exp) is = refl
 end_noted moment run left ends reply is = let none : false ≡ true = is in absurd (cc none)
@@ -93,7 +93,7 @@ module _ (rule : RuleNumber) where
     All opens devices result = ObeysRuns rule queue.moment start devices before then' old newer opens result
 
     abbrev behind : Reply → Serving
-    behind reply = behind_run queue.moment at reply
+    behind reply = after_run queue.moment at reply
 
     module _ (opens : List OpenSwap) (devices : ℕ) (within : devices ≤ before.faults.devices) (works : WorksWith before old opens) where
       abbrev o : Origin Serving
@@ -179,9 +179,9 @@ module _ (rule : RuleNumber) where
       fails_there faults.Memory (inr ends) opens devices within works =
           wants (runs_in_turn rule queue.moment) (runs_from before old opens start devices) None then' newer (behind ends.0) (one_on opens devices within works ends.0 ends.3 ends.2 ends.1)
 
-      -- memory is wanting behind it
-      pub wants_behind : (next : Served) (inside : Bool) → Ends (Ok (next, inside)) → next.closes ≡ false → ForAll (Err faults.Memory)
-      wants_behind next inside ends goes opens devices within works =
+      -- memory is wanting after it
+      pub wants_after : (next : Served) (inside : Bool) → Ends (Ok (next, inside)) → next.closes ≡ false → ForAll (Err faults.Memory)
+      wants_after next inside ends goes opens devices within works =
           wants (runs_in_turn rule queue.moment) (runs_from before old opens start devices) None then' newer (behind ends.0)
           (one_on opens devices within works ends.0 ends.4 ends.1 (closing_is next ends.0 (ends.3 told are) ∙ goes))
 

@@ -34,7 +34,7 @@ pub has_at : (exp : List ℕ) (opens : List OpenSwap) (o : OpenSwap) → open_at
 has_at exp [] o is = absurd (cc is)
 has_at exp (x ∷ opens) o is = by_test (bytes_eq (name_in x) exp) exp x o opens refl is (λ more. has_at exp opens o more)
 
--- it is so with more behind
+-- it is so with more after
 pub at_front : (exp : List ℕ) (opens more : List OpenSwap) (o : OpenSwap) → open_at exp opens ≡ Some o → open_at exp (opens ++ more) ≡ Some o
 at_front exp [] more o is = absurd (cc is)
 at_front exp (x ∷ opens) more o is = by (bytes_eq (name_in x) exp) (λ next. at_front exp opens more o next) is

@@ -1,4 +1,4 @@
--- The state behind `open`: behind reading, the settling of all that moves, and the move of the journal.
+-- The state after `open`: after reading, the settling of all that moves, and the move of the journal.
 use Rattle.std.proofs.Common.{◌≡◌, inl, inr, ℕ, true, false, List, [], ◌++◌, Option, Some, None, Result, Ok, Err, IfOk, IfSome, refl, sym, ap, subst, ◌∙◌, append_assoc}
 use Rattle.std.proofs.lemmas.List.{append-nil}
 use Rattle.lab_base.proofs.Tests.{some_weaker}
@@ -22,7 +22,7 @@ use Rattle.swap_turns.specs.Running.{Stands}
 use Rattle.swap_turns.specs.Settling.{BreaksOff, HasBrokenOff, Settles}
 use Rattle.swap_turns.specs.Showing.{Shows}
 use Rattle.swap_turns.specs.Turning.{Outcome, Unwritten, Stopped}
-use Rattle.swap_turns.proofs.Closing.{Images, closes_behind}
+use Rattle.swap_turns.proofs.Closing.{Images, closes_after}
 use Rattle.swap_turns.proofs.Showing.{settles_show, broken_shows}
 use Rattle.swap_turns.proofs.Telling.{if_back}
 use Rattle.recovery.specs.Due.{swaps_of}
@@ -47,7 +47,7 @@ module _ (limit : ℕ) (before mid now : Seen) (c : Control) (read : ReadTold be
   abbrev Left : Result Control OpenFault → Type 0
   Left result = OpenTold before.told now.told limit result
 
-  -- what is said of the steps of the settling, behind those of reading
+  -- what is said of the steps of the settling, after those of reading
   put : (moving : List Event) (result : Result Control OpenFault) → now.told ≡ with_steps mid.told moving → has_outer moving ≡ false → IfSome mid.told (λ t. IsSound the_texts t.trace → IsSound the_texts (t.trace ++ moving))
       → IfSome before.told (λ t. HasRead t.trace read.0 limit c.lab → OpenEnds t.trace read.0 moving limit result) → Left result
   put moving result told quiet sound ends = (
@@ -68,7 +68,7 @@ module _ (limit : ℕ) (before mid now : Seen) (c : Control) (read : ReadTold be
 
   in_part : (outcome : Outcome) → (h : HasBrokenOff the_texts c.lab (swaps_of [] c.lab.experiments) mid now outcome) → IfSome before.told (λ t. HasRead t.trace read.0 limit c.lab → SettlesInPart t.trace read.0 h.steps limit outcome)
   in_part outcome h =
-      let closed = closes_behind the_texts before.told mid.told read.0 h.steps (Broken outcome) (λ steps lab. Broken outcome h.steps lab) read.1
+      let closed = closes_after the_texts before.told mid.told read.0 h.steps (Broken outcome) (λ steps lab. Broken outcome h.steps lab) read.1
       (some_weaker before.told (λ t. ReadSteps t.trace read.0 × HasRead t.trace read.0 limit c.lab) (λ t. IsSound the_texts t.trace → IsSound the_texts (t.trace ++ read.0)) (λ t r. r.0.sound) read.2) (λ lab broken. broken) h.leaves in
       some_weaker before.told (λ t. Images the_texts t.trace (read.0 ++ h.steps) (λ lab. Broken outcome h.steps lab)) (λ t. HasRead t.trace read.0 limit c.lab → SettlesInPart t.trace read.0 h.steps limit outcome)
       (λ t images has_read. record { start = c.lab; read = has_read; lab = closed.after; breaks = closed.is; images = images }) closed.images

@@ -38,7 +38,7 @@ use Rattle.swap_turns.proofs.Showing.{finish_shows, settles_show, swap_shows, tu
 use Rattle.cost_rule.specs.declared.rule.RuleNumber.{RuleNumber}
 use Rattle.lab_tasks.specs.Tasks.{Task, Tell, Append, Swap, BeginOnly, Turn, Finish, Recover}
 use Rattle.lab_core.specs.LabSteps.{DoesBy, Replies, WantsMemory, AppendEnds, whole, broken, Appends, done_reply, undone_end, end_reply, turn_reply, IsAnswered, is_told, Swaps, BeginSteps, Begins as BeginsSwap, Turns, EndsSwap, has_space, IfSpace, Does, IsDoneBy, does, no_memory, FromClosed, opened, not_opened, Drills, is_planned, is_refused, wants_memory, StepOf, IsThis, JudgedBeside}
-use Rattle.lab_core.specs.Breaks.{Breaks, StartsBehind, stopped, failed, unanswered}
+use Rattle.lab_core.specs.Breaks.{Breaks, StartsAfter, stopped, failed, unanswered}
 use Rattle.lab_core.specs.Recovery.{BreaksOpening, OpensInPart, reading, settling, shifting, Recovers, settled, broken_off}
 use Rattle.lab_core.specs.Sessions.{OpenSwap, Session, Closed, Open, Setting, After, names_of, Terms}
 use Rattle.lab_tasks.specs.OpenNames.{is_among, name_of}
@@ -46,7 +46,7 @@ use Rattle.lab_core.specs.Tells.{BeginsAt, GoBy, IsAtRest, IsNoSwap, TellsBroken
 use Rattle.lab_judge.proofs.Fits.{IsFit, fits}
 use Rattle.lab_core.proofs.TasksApart.{IsTaskApart, task_apart}
 use Rattle.lab_core.proofs.Others.{IsSpared, Stays, begun_stays, both_stay, either_stays, ended_stays, in_part_stay, move_stays, rests_on, same_stays, settled_stay, settles_stay, some_stay, swap_stays, turned_stays}
-use Rattle.lab_core.proofs.OuterSteps.{Tells, broken_tells, no_step_of, restarts, still_as, tell_behind, tells_step}
+use Rattle.lab_core.proofs.OuterSteps.{Tells, broken_tells, no_step_of, restarts, still_as, tell_after, tells_step}
 
 -- where none is told
 pub none_told : {X : Type 0} (told : Option Reply) (reply : Reply) → told ≡ None → told ≡ Some reply → X
@@ -265,26 +265,26 @@ module _ (exp : List ℕ) (way : Way) (own : List Event) (after : After) (reply 
   swap_tells drill terms set s session command opening no' (drilled some none drills) = let both : false ≡ true = ap is_some (sym no') ∙ some in absurd (cc both)
 
 -- THE STEPS THAT A REPLY TELLS OF: starts of the plant, and failed readings
-nothing_behind : (steps behind : List Event) → has_outer steps ≡ false → behind ≡ [] → has_outer (steps ++ behind) ≡ false
-nothing_behind steps behind quiet none = ap (λ l. has_outer (steps ++ l)) none ∙ ap has_outer (append-nil steps) ∙ quiet
+nothing_after : (steps behind : List Event) → has_outer steps ≡ false → behind ≡ [] → has_outer (steps ++ behind) ≡ false
+nothing_after steps behind quiet none = ap (λ l. has_outer (steps ++ l)) none ∙ ap has_outer (append-nil steps) ∙ quiet
 
 pub done_calm : (exp : List ℕ) (o : Option Mapped) → tells_step (done_reply exp o) ≡ false
 done_calm exp None = refl
 done_calm exp (Some m) = refl
 
-end_stops : (p : SwapOf) (outcome : Outcome) (steps behind : List Event) (reply : Reply) → has_outer steps ≡ false → StartsBehind outcome behind → end_reply p outcome ≡ Some reply → Tells (steps ++ behind) reply
+end_stops : (p : SwapOf) (outcome : Outcome) (steps behind : List Event) (reply : Reply) → has_outer steps ≡ false → StartsAfter outcome behind → end_reply p outcome ≡ Some reply → Tells (steps ++ behind) reply
 end_stops p Halted steps behind reply quiet (a, b, starts) is = restarts (record { front = steps; a = a; b = b; is = ap (λ l. steps ++ l) starts; once = quiet }) (sym (same_Some StoppedReply reply is))
 end_stops p More steps behind reply quiet starts is = let none : None ≡ Some reply = is in absurd (cc none)
 end_stops p (TurnsBack why) steps behind reply quiet starts is = let none : None ≡ Some reply = is in absurd (cc none)
 end_stops p (Ended Settling) steps behind reply quiet starts is = let none : None ≡ Some reply = is in absurd (cc none)
-end_stops p (Ended Forth) steps behind reply quiet starts is = still_as (steps ++ behind) (done_reply p.name p.new) reply (nothing_behind steps behind quiet starts) (done_calm p.name p.new) is
-end_stops p (Ended (Undo why)) steps behind reply quiet starts is = still_as (steps ++ behind) (Failed p.name (undone_end p.old) (what_of why)) reply (nothing_behind steps behind quiet starts) refl is
-end_stops p (Stuck why) steps behind reply quiet starts is = still_as (steps ++ behind) (Failed p.name ends.Stuck (what_of why)) reply (nothing_behind steps behind quiet starts) refl is
-end_stops p Unwritten steps behind reply quiet starts is = still_as (steps ++ behind) (Failed p.name ends.Stuck whats.Journal) reply (nothing_behind steps behind quiet starts) refl is
+end_stops p (Ended Forth) steps behind reply quiet starts is = still_as (steps ++ behind) (done_reply p.name p.new) reply (nothing_after steps behind quiet starts) (done_calm p.name p.new) is
+end_stops p (Ended (Undo why)) steps behind reply quiet starts is = still_as (steps ++ behind) (Failed p.name (undone_end p.old) (what_of why)) reply (nothing_after steps behind quiet starts) refl is
+end_stops p (Stuck why) steps behind reply quiet starts is = still_as (steps ++ behind) (Failed p.name ends.Stuck (what_of why)) reply (nothing_after steps behind quiet starts) refl is
+end_stops p Unwritten steps behind reply quiet starts is = still_as (steps ++ behind) (Failed p.name ends.Stuck whats.Journal) reply (nothing_after steps behind quiet starts) refl is
 
-turn_stops : (p : SwapOf) (outcome : Outcome) (steps behind : List Event) (reply : Reply) → has_outer steps ≡ false → StartsBehind outcome behind → turn_reply p outcome ≡ Some reply → Tells (steps ++ behind) reply
-turn_stops p More steps behind reply quiet starts is = still_as (steps ++ behind) (MoreReply p.name) reply (nothing_behind steps behind quiet starts) refl is
-turn_stops p (TurnsBack why) steps behind reply quiet starts is = still_as (steps ++ behind) (Trouble p.name (what_of why)) reply (nothing_behind steps behind quiet starts) refl is
+turn_stops : (p : SwapOf) (outcome : Outcome) (steps behind : List Event) (reply : Reply) → has_outer steps ≡ false → StartsAfter outcome behind → turn_reply p outcome ≡ Some reply → Tells (steps ++ behind) reply
+turn_stops p More steps behind reply quiet starts is = still_as (steps ++ behind) (MoreReply p.name) reply (nothing_after steps behind quiet starts) refl is
+turn_stops p (TurnsBack why) steps behind reply quiet starts is = still_as (steps ++ behind) (Trouble p.name (what_of why)) reply (nothing_after steps behind quiet starts) refl is
 turn_stops p (Ended leg) steps behind reply quiet starts is = end_stops p (Ended leg) steps behind reply quiet starts is
 turn_stops p (Stuck why) steps behind reply quiet starts is = end_stops p (Stuck why) steps behind reply quiet starts is
 turn_stops p Unwritten steps behind reply quiet starts is = end_stops p Unwritten steps behind reply quiet starts is
@@ -318,7 +318,7 @@ module _ (own : List Event) (after : After) (reply : Reply) (is : after.reply �
       by (broken breaks said either session) = broken_tells own after.reply reply breaks is
 
   -- a swap, or a turn, was answered
-  answered_stops : (told : Option Reply) (to : List OpenSwap) (outcome : Outcome) (steps behind : List Event) → own ≡ steps ++ behind → (StartsBehind outcome behind → told ≡ Some reply → Tells (steps ++ behind) reply)
+  answered_stops : (told : Option Reply) (to : List OpenSwap) (outcome : Outcome) (steps behind : List Event) → own ≡ steps ++ behind → (StartsAfter outcome behind → told ≡ Some reply → Tells (steps ++ behind) reply)
       → IsAnswered told to outcome behind after → Tells own reply
   answered_stops told to outcome steps behind own_is each (is_told starts replied session) = subst (λ l. Tells l reply) (sym own_is) (each starts (sym replied ∙ is))
 
@@ -361,7 +361,7 @@ module _ (own : List Event) (after : After) (reply : Reply) (is : after.reply �
 
   pub step_stops : (drill : Option Drill) (judgement : Result Task Reply) (terms : Terms) (set : Setting) (s : LabState) (session : Session) (command : Command) (opening : List Event) → Was drill judgement terms set s session command opening own after → Tells (opening ++ own) reply
   step_stops drill judgement terms set s session command opening (done mid opens begins judged d) =
-      tell_behind opening own reply begins.quiet (does_stop set mid opens command (is_among (names_of opens) (name_of command)) (length opens) judgement (fits mid (is_among (names_of opens) (name_of command)) (length opens) terms.rule command judgement judged) d)
+      tell_after opening own reply begins.quiet (does_stop set mid opens command (is_among (names_of opens) (name_of command)) (length opens) judgement (fits mid (is_among (names_of opens) (name_of command)) (length opens) terms.rule command judgement judged) d)
   step_stops drill judgement terms set s session command opening (wanting mid opens begins wants) = none_told after.reply reply (ap (λ (v : After). v.reply) wants.after_is) is
   step_stops drill judgement terms set s session command opening (broke no' closed breaks) = subst (λ l. Tells (opening ++ l) reply) (sym breaks.nothing) (subst (λ l. Tells l reply) (sym (append-nil opening)) (broken_tells opening after.reply reply breaks.breaks is))
   step_stops drill judgement terms set s session command opening (drilled some none drills) = subst (λ l. Tells (l ++ own) reply) (sym none) (drill_stops terms s session drills)

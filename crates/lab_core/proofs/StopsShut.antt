@@ -1,4 +1,4 @@
--- Behind the reply `stopped` no session is open.
+-- After the reply `stopped` no session is open.
 use Rattle.std.proofs.Common.{◌≡◌, ℕ, Bool, true, false, List, Option, Some, None, Result, Ok, Err, refl, sym, ap, ◌∙◌}
 use Rattle.std.specs.Prelude.{length}
 use Rattle.std.proofs.lemmas.Option.{same_Some}

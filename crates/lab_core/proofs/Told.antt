@@ -24,7 +24,7 @@ use Rattle.script_text.specs.declared.reply.Reply.TheVariants.{More as MoreReply
 use Rattle.lab_core.specs.declared.fault.CoreFault.{CoreFault}
 use Rattle.lab_core.specs.declared.fault.CoreFault.TheVariants as faults
 use Rattle.lab_core.specs.LabSteps.{done_reply, turn_reply, undone_end}
-use Rattle.swap_mgr.specs.Turns.{end_of}
+use Rattle.swap_mgr.specs.Turns.{over_of}
 use Rattle.recovery.specs.One.{EndsBy}
 use Rattle.lab_core.specs.Swapping.{progress_answer, reply_of_done, reply_of_over, undone_by}
 
@@ -132,7 +132,7 @@ module _ (s : LabState) (o : RunningSwap) (exp : List ℕ) (name : o.swap.name �
   stuck_lab whats.Journal outcome is goes after turn = absurd (goes is)
 
   -- it is the one to which the move's end leads, or that before
-  pub same_lab : (told : Progress) (outcome : Outcome) → TellsOf o.swap told outcome → (outcome ≡ Unwritten → ⊥) → (outcome ≡ Stopped → ⊥) → (after lab : LabState) → TurnSteps s o steps outcome after → EndsBy s exp (end_of told) lab → after ≡ lab
+  pub same_lab : (told : Progress) (outcome : Outcome) → TellsOf o.swap told outcome → (outcome ≡ Unwritten → ⊥) → (outcome ≡ Stopped → ⊥) → (after lab : LabState) → TurnSteps s o steps outcome after → EndsBy s exp (over_of told) lab → after ≡ lab
   same_lab progress.More outcome is goes on after lab turn ended = (subst (λ (x : Outcome). TurnSteps s o steps x after) is turn).2 ∙ sym ended
   same_lab (progress.Trouble what) outcome is goes on after lab turn ended = (subst (λ (x : Outcome). TurnSteps s o steps x after) is.2 turn).4 ∙ sym ended
   same_lab (progress.Ended over) outcome is goes on after lab turn ended = same_Some after lab (sym (ended_as over is.0 after is.2 (subst (λ (x : Outcome). TurnSteps s o steps x after) is.1 turn)) ∙ ended)

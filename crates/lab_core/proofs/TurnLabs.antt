@@ -15,7 +15,7 @@ use Rattle.swap_turns.proofs.Finishing.{onward_swap}
 use Rattle.swap_mgr.specs.Managing.{HasTurned, HasTurnedToEnd}
 use Rattle.swap_turns.specs.declared.progress.Progress.{Progress}
 use Rattle.swap_turns.specs.declared.progress.Progress.TheVariants as progress
-use Rattle.swap_mgr.specs.Turns.{end_of}
+use Rattle.swap_mgr.specs.Turns.{over_of}
 use Rattle.recovery.specs.One.{CanEndBy, EndsBy}
 use Rattle.lab_core.specs.Swapping.{HasEndedIn, HasTurnedIn}
 use Rattle.lab_core.proofs.Told.{TellsOf, ended_as, same_lab, tells_of}
@@ -38,10 +38,10 @@ module _ (s : LabState) (pairs : List (RunningSwap × Live)) (exp : List ℕ) (w
   abbrev turn_works : LabState → Type 0
   turn_works after = Working the_texts now.told k after (h.before ++ (h.next ++ h.behind))
 
-  turned_lab : (lab : LabState) → EndsBy s exp (end_of told) lab → (h.outcome ≡ Unwritten → ⊥) → (h.outcome ≡ Stopped → ⊥) → (after : LabState) → TurnSteps s h.swap h.steps h.outcome after → after ≡ lab
+  turned_lab : (lab : LabState) → EndsBy s exp (over_of told) lab → (h.outcome ≡ Unwritten → ⊥) → (h.outcome ≡ Stopped → ⊥) → (after : LabState) → TurnSteps s h.swap h.steps h.outcome after → after ≡ lab
   turned_lab lab ended written going after turn = same_lab s h.swap exp h.named h.steps told h.outcome (tells_of h.swap told h.outcome h.is_told) written going after lab turn ended
 
-  pub turned_in : (lab : LabState) → EndsBy s exp (end_of told) lab → HasTurnedIn s pairs exp was now j k told new lab
+  pub turned_in : (lab : LabState) → EndsBy s exp (over_of told) lab → HasTurnedIn s pairs exp was now j k told new lab
   turned_in lab ended = record { turn = h; goes = goes_in (λ outcome after. TurnSteps s h.swap h.steps outcome after) turn_works lab h.outcome (turned_lab lab ended) h.all }
 
 can_end_turn_over : (s : LabState) (pairs : List (RunningSwap × Live)) (exp : List ℕ) (was now : Seen) (j k : Journal) (over : Over) (new : List Live) → HasTurned the_texts s pairs exp was now j k (progress.Ended over) new → CanEnd s exp over.committed
@@ -49,7 +49,7 @@ can_end_turn_over s pairs exp was now j k over new h =
     let a = subst (λ (x : Outcome). IfGoesOn x ((after : LabState) × TurnSteps s h.swap h.steps x after × Working the_texts now.told k after (h.before ++ (h.next ++ h.behind)))) h.is_told.outcome_is h.all in
     (a.0, ended_as s h.swap exp h.named h.steps over h.swap.leg a.0 h.is_told.committed a.1)
 
-pub can_end_turn : (s : LabState) (pairs : List (RunningSwap × Live)) (exp : List ℕ) (was now : Seen) (j k : Journal) (told : Progress) (new : List Live) → HasTurned the_texts s pairs exp was now j k told new → CanEndBy s exp (end_of told)
+pub can_end_turn : (s : LabState) (pairs : List (RunningSwap × Live)) (exp : List ℕ) (was now : Seen) (j k : Journal) (told : Progress) (new : List Live) → HasTurned the_texts s pairs exp was now j k told new → CanEndBy s exp (over_of told)
 can_end_turn s pairs exp was now j k progress.More new h = tt
 can_end_turn s pairs exp was now j k (progress.Trouble what) new h = tt
 can_end_turn s pairs exp was now j k (progress.Ended over) new h = can_end_turn_over s pairs exp was now j k over new h
@@ -64,12 +64,12 @@ module _ (s : LabState) (pairs : List (RunningSwap × Live)) (exp : List ℕ) (w
   tells_at : (at : SwapOf) → at ≡ h.swap.swap → TellsOf at told h.finished.outcome
   tells_at at is = subst (λ (p : SwapOf). TellsOf p told h.finished.outcome) (h.finished.swap_is ∙ sym is) (tells_of h.finished.at told h.finished.outcome h.finished.is_told)
 
-  ended_lab : (lab : LabState) → EndsBy s exp (end_of told) lab → (h.finished.outcome ≡ Unwritten → ⊥) → (h.finished.outcome ≡ Stopped → ⊥) → (after : LabState) → Finishes s h.swap h.finished.steps h.finished.outcome after → after ≡ lab
+  ended_lab : (lab : LabState) → EndsBy s exp (over_of told) lab → (h.finished.outcome ≡ Unwritten → ⊥) → (h.finished.outcome ≡ Stopped → ⊥) → (after : LabState) → Finishes s h.swap h.finished.steps h.finished.outcome after → after ≡ lab
   ended_lab lab ended written going after f =
       let at_is : f.at.swap ≡ h.swap.swap = onward_swap s h.swap f.front f.at f.onward in
       same_lab s f.at exp (ap (λ (p : SwapOf). p.name) at_is ∙ h.named) f.behind told h.finished.outcome (tells_at f.at.swap at_is) written going after lab f.turn ended
 
-  pub ended_in : (lab : LabState) → EndsBy s exp (end_of told) lab → HasEndedIn s pairs exp was now j k told new lab
+  pub ended_in : (lab : LabState) → EndsBy s exp (over_of told) lab → HasEndedIn s pairs exp was now j k told new lab
   ended_in lab ended = record { end = h; goes = goes_in (λ outcome after. Finishes s h.swap h.finished.steps outcome after) end_works lab h.finished.outcome (ended_lab lab ended) h.all }
 
 can_end_over : (s : LabState) (pairs : List (RunningSwap × Live)) (exp : List ℕ) (was now : Seen) (j k : Journal) (over : Over) (new : List Live) → HasTurnedToEnd the_texts s pairs exp was now j k (progress.Ended over) new → CanEnd s exp over.committed
@@ -82,7 +82,7 @@ can_end_over s pairs exp was now j k over new h =
           (told.committed ∙ ap (λ (p : SwapOf). Rattle.swap_turns.specs.Legs.commits p h.finished.at.leg) (h.finished.swap_is ∙ sym at_is)) a.1.turn,
     )
 
-pub can_end : (s : LabState) (pairs : List (RunningSwap × Live)) (exp : List ℕ) (was now : Seen) (j k : Journal) (told : Progress) (new : List Live) → HasTurnedToEnd the_texts s pairs exp was now j k told new → CanEndBy s exp (end_of told)
+pub can_end : (s : LabState) (pairs : List (RunningSwap × Live)) (exp : List ℕ) (was now : Seen) (j k : Journal) (told : Progress) (new : List Live) → HasTurnedToEnd the_texts s pairs exp was now j k told new → CanEndBy s exp (over_of told)
 can_end s pairs exp was now j k progress.More new h = tt
 can_end s pairs exp was now j k (progress.Trouble what) new h = tt
 can_end s pairs exp was now j k (progress.Ended over) new h = can_end_over s pairs exp was now j k over new h

@@ -25,7 +25,7 @@ use Rattle.swap_turns.specs.Running.{OpenSwap as RunningSwap}
 use Rattle.swap_turns.specs.Swaps.{Swap as SwapOf}
 use Rattle.swap_turns.specs.Turning.{Outcome, More, TurnsBack, Ended, Stuck, Unwritten, Stopped as Halted, IsOneAtMost, IsOneCommand, TurnSteps}
 use Rattle.swap_turns.proofs.Finishing.{onward_swap}
-use Rattle.lab_core.specs.Breaks.{StartsBehind}
+use Rattle.lab_core.specs.Breaks.{StartsAfter}
 use Rattle.lab_tasks.specs.Tasks.{Turn, Finish}
 use Rattle.lab_core.specs.LabSteps.{IsAnswered, is_told, done_reply, undone_end, end_reply, turn_reply, Turns, Drills, is_planned, is_refused, wants_memory}
 use Rattle.lab_core.specs.Sessions.{OpenSwap, Session, Closed, Open, Setting, After, Terms}
@@ -43,7 +43,7 @@ module _ (own : List Event) (after : After) (reply : Reply) (is : after.reply �
   one_command : (steps behind : List Event) → own ≡ steps ++ behind → behind ≡ [] → IsOneCommand steps → IsTurn own
   one_command steps behind own_is none one = sends (record { op = one.op; applied = one.applied; answer = one.answer; is = own_is ∙ ap (λ l. steps ++ l) none ∙ append-nil steps ∙ one.is })
 
-  by_outcome : (s : LabState) (o : RunningSwap) (steps behind : List Event) (outcome : Outcome) → own ≡ steps ++ behind → StartsBehind outcome behind → after.reply ≡ turn_reply o.swap outcome → TurnSteps s o steps outcome after.lab → IsTurn own
+  by_outcome : (s : LabState) (o : RunningSwap) (steps behind : List Event) (outcome : Outcome) → own ≡ steps ++ behind → StartsAfter outcome behind → after.reply ≡ turn_reply o.swap outcome → TurnSteps s o steps outcome after.lab → IsTurn own
   by_outcome s o steps behind More own_is starts told turn = one_command steps behind own_is starts turn.0
   by_outcome s o steps behind (TurnsBack why) own_is starts told turn = one_command steps behind own_is starts turn.0
   by_outcome s o steps behind (Stuck trouble) own_is starts told turn = one_command steps behind own_is starts turn.0
@@ -91,9 +91,9 @@ turn_sends s after o steps Halted (inl x) = by x.2
     by (inr one) = inr one
 turn_sends s after o steps Halted (inr x) = let b = x.1 in inl (part_calm (added b.side b.gate (last o.swap o.leg) b.run) steps (nothing b.side) b.steps_are (append_quiet b.side b.gate (last o.swap o.leg) b.run).0 refl)
 
-with_behind : (own steps behind : List Event) → own ≡ steps ++ behind → has_command behind ≡ false → has_journal_step behind ≡ false → OneOrNone steps → AtMostOne own
-with_behind own steps behind own_is no_command no_step (inl h) = inl (shows is_command own steps behind false false own_is h no_command)
-with_behind own steps behind own_is no_command no_step (inr one) = inr (record {
+with_after : (own steps behind : List Event) → own ≡ steps ++ behind → has_command behind ≡ false → has_journal_step behind ≡ false → OneOrNone steps → AtMostOne own
+with_after own steps behind own_is no_command no_step (inl h) = inl (shows is_command own steps behind false false own_is h no_command)
+with_after own steps behind own_is no_command no_step (inr one) = inr (record {
   op = one.op;
   applied = one.applied;
   answer = one.answer;
@@ -106,7 +106,7 @@ with_behind own steps behind own_is no_command no_step (inr one) = inr (record {
 none_calm : (behind : List Event) → behind ≡ [] → (has_command behind ≡ false) × (has_journal_step behind ≡ false)
 none_calm behind none = (ap has_command none, ap has_journal_step none)
 
-starts_calm : (outcome : Outcome) (behind : List Event) → StartsBehind outcome behind → (has_command behind ≡ false) × (has_journal_step behind ≡ false)
+starts_calm : (outcome : Outcome) (behind : List Event) → StartsAfter outcome behind → (has_command behind ≡ false) × (has_journal_step behind ≡ false)
 starts_calm Halted behind (a, b, is) = (ap has_command is, ap has_journal_step is)
 starts_calm More behind none = none_calm behind none
 starts_calm (TurnsBack why) behind none = none_calm behind none
@@ -125,7 +125,7 @@ drills_nothing terms s session own after (wants_memory wants) = wants.nothing
 pub turn_at_most_one : (drill : Option Drill) (terms : Terms) (set : Setting) (s : LabState) (session : Session) (command : Command) (opening own : List Event) (after : After) (exp : List ℕ) → Was drill (Ok (Turn exp)) terms set s session command opening own after
     → (has_command own ≡ false) ⊎ SendsOne own
 turn_at_most_one drill terms set s session command opening own after exp (done mid opens begins judged d) =
-    let calm = answer_calm _ _ d.outcome d.behind after d.answered in with_behind own d.steps d.behind d.own_is calm.0 calm.1 (turn_sends mid after.lab d.one.swap.running d.steps d.outcome d.turn)
+    let calm = answer_calm _ _ d.outcome d.behind after d.answered in with_after own d.steps d.behind d.own_is calm.0 calm.1 (turn_sends mid after.lab d.one.swap.running d.steps d.outcome d.turn)
 turn_at_most_one drill terms set s session command opening own after exp (wanting mid opens begins wants) = nothing_sent own wants.nothing
 turn_at_most_one drill terms set s session command opening own after exp (broke none closed breaks) = nothing_sent own breaks.nothing
 turn_at_most_one drill terms set s session command opening own after exp (drilled some none drills) = nothing_sent own (drills_nothing terms s session own after drills)

@@ -1,4 +1,4 @@
--- The state behind a turn of an open swap, and behind turning it to its end.
+-- The state after a turn of an open swap, and after turning it to its end.
 use Rattle.std.proofs.Common.{◌≡◌, ◌≢◌, ◌↔◌, inl, inr, ◌≤◌, ℕ, List, ◌∷◌, ◌++◌, Option, Some, IsTrue, Ok, refl, sym, ap, ◌∙◌, subst}
 use Rattle.std.proofs.lemmas.List.{map-append}
 use Rattle.lab_base.specs.Lists.{Has, listed}
@@ -19,7 +19,7 @@ use Rattle.swap_mgr.specs.Managing.{Holds, IsPlain}
 use Rattle.swap_mgr.specs.Turns.{IsStop}
 use Rattle.swap_turns.specs.declared.progress.Progress.{Progress}
 use Rattle.script_text.specs.declared.reply.Reply.{Reply}
-use Rattle.lab_core.specs.Breaks.{StartsBehind}
+use Rattle.lab_core.specs.Breaks.{StartsAfter}
 use Rattle.lab_core.specs.Controller.{Control, WorksWith}
 use Rattle.lab_tasks.specs.Tasks.{Turn}
 use Rattle.lab_judge.specs.Judge.{Is}
@@ -27,7 +27,7 @@ use Rattle.lab_core.specs.LabSteps.{IsOneOf, does, end_session, is_told, turn_re
 use Rattle.lab_core.specs.Obey.{start_of, Obeyed}
 use Rattle.lab_core.specs.Sessions.{OpenSwap, Session, HasRisenBy, IsSince, counted_from, devices_if, name_in, open_at}
 use Rattle.lab_core.specs.Swapping.{HasTurnedIn, progress_answer}
-use Rattle.lab_core.proofs.OpenSwaps.{Pair, Place, has_front, has_one, has_rest, open_at_one, open_turned, others_before, others_behind, place_of, risen_by, risen_later, running_of, since_later, since_turned, swaps_in, turned_running}
+use Rattle.lab_core.proofs.OpenSwaps.{Pair, Place, has_front, has_one, has_rest, open_at_one, open_turned, others_before, others_after, place_of, risen_by, risen_later, running_of, since_later, since_turned, swaps_in, turned_running}
 use Rattle.lab_core.proofs.PerformSwap.{HasEnded, IsCausedNow, IsCausedSince, LeavesOpen, by_outcome}
 use Rattle.lab_core.proofs.Told.{Halts, IsAnswer, answered, halts_as}
 use Rattle.lab_core.proofs.Obey.{IsDone}
@@ -63,7 +63,7 @@ module _ (before now : Seen) (old new : Control) (opens : List OpenSwap) (exp : 
   pub apart : (q : OpenSwap) → Has (at.front ++ at.rest) q → name_in q ≢ at.one.running.swap.name
   apart q has = elim (Has-append at.front at.rest q has) [
     | inl in_front ↦ others_before works.pairs a x b opens at pairs_are works.working.differ q in_front
-    | inr in_rest ↦ others_behind works.pairs a x b opens at pairs_are works.working.differ q in_rest
+    | inr in_rest ↦ others_after works.pairs a x b opens at pairs_are works.working.differ q in_rest
   ]
 
   pub counted : (devices : ℕ) → counted_from opens (Some exp) devices ≡ at.one.devices
@@ -127,7 +127,7 @@ module _ (devices : ℕ) (before now : Seen) (old new : Control) (opens : List O
       by (Stuck why) ended q has = apart before now old new opens exp works h.turn.before h.turn.behind x h.turn.opens_are h.turn.named q has
       by outcome ended q has = absurd ended
 
-  turn_done : (outcome : Outcome) (lab : LabState) (behind : List Event) (reply : Reply) (session : Session) → TurnIs outcome h.turn.steps lab → StartsBehind outcome behind → turn_reply place.one.running.swap outcome ≡ Some reply → session ≡ end_session (turn_to outcome) outcome
+  turn_done : (outcome : Outcome) (lab : LabState) (behind : List Event) (reply : Reply) (session : Session) → TurnIs outcome h.turn.steps lab → StartsAfter outcome behind → turn_reply place.one.running.swap outcome ≡ Some reply → session ≡ end_session (turn_to outcome) outcome
       → IsDone (Is (Ok (Turn exp))) (start_of devices old opens) (h.turn.steps ++ behind) (Some reply) lab session
   turn_done outcome lab behind reply session is starts reply_is session_is =
       does (Ok (Turn exp)) refl (record { one = turn_one; moves = turn_moves; outcome = outcome; steps = h.turn.steps; behind = behind; own_is = refl; turn = is; answered = is_told starts (sym reply_is) session_is })

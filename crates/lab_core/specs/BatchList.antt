@@ -29,8 +29,8 @@ abbrev pub no_runs : List Run → Bool
 no_runs [] = true
 no_runs (run ∷ left) = false
 
-abbrev pub behind_run : ℕ → Serving → Reply → Serving
-behind_run moment p reply = record { promises = p.promises; left = drop 1 p.left; ends = with_end moment p.left reply p.ends; told = p.told ++ reply ∷ [] }
+abbrev pub after_run : ℕ → Serving → Reply → Serving
+after_run moment p reply = record { promises = p.promises; left = drop 1 p.left; ends = with_end moment p.left reply p.ends; told = p.told ++ reply ∷ [] }
 
 module _ (rule : RuleNumber) (moment : ℕ) where
   -- what is judged of a run beside these open swaps
@@ -46,7 +46,7 @@ module _ (rule : RuleNumber) (moment : ℕ) where
   runs_in_turn = record {
     is_over = λ p. no_runs p.left;
     Judges = λ p set s opens. JudgedNextRun p.promises p.ends p.left (λ entry. has_space set entry) s opens;
-    behind = behind_run moment;
+    behind = after_run moment;
     whole = λ p. replies.Served (served_of p.told);
   }
 

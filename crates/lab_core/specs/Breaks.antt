@@ -13,7 +13,7 @@ pub data Breaks (events : List Event) (reply : Option Reply) : Type 0 where
   failed : has_outer events ≡ false → has_miss events ≡ true → reply ≡ Some Down → Breaks events reply
   unanswered : reply ≡ None → Breaks events reply
 
--- behind the steps of a swap in which the plant stopped stands its start
-abbrev pub StartsBehind : Outcome → List Event → Type 0
-StartsBehind Halted behind = (a : List ℕ) × (b : List ℕ) × (behind ≡ Restarted a b ∷ [])
-StartsBehind outcome behind = behind ≡ []
+-- after the steps of a swap in which the plant stopped stands its start
+abbrev pub StartsAfter : Outcome → List Event → Type 0
+StartsAfter Halted behind = (a : List ℕ) × (b : List ℕ) × (behind ≡ Restarted a b ∷ [])
+StartsAfter outcome behind = behind ≡ []

@@ -1,4 +1,4 @@
--- The journal's move onto its other side, behind the settling of an opening.
+-- The journal's move onto its other side, after the settling of an opening.
 use Rattle.std.specs.Prelude.{◌≡◌, ◌<◌, ◌≤◌, ◌+◌, ◌-◌, ◌*◌, ◌^◌, ℕ, true, false, List, [], ◌++◌, Option, Result, Ok, Err, IfSome}
 use Rattle.plant.specs.Disks.{disk}
 use Rattle.plant.specs.Events.{Event}
@@ -33,7 +33,7 @@ pub record IsToMove (length epoch : ℕ) (s : LabState) : Type 0 where
   pub half : 2 * packed_length s ≤ length
   pub next : epoch < 2 ^ 64 - 1
 
--- WHERE IT IS behind an opening's settling: its length, its live side and the epoch; side and epoch are those before the opening, and of a journal that
+-- WHERE IT IS after an opening's settling: its length, its live side and the epoch; side and epoch are those before the opening, and of a journal that
 -- was made in it they are A and 1
 pub record IsPlaced (before trace : List Event) (length : ℕ) (side : Side) (epoch : ℕ) : Type 0 where
   pub length_is : IsLengthAt trace length

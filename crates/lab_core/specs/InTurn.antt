@@ -30,7 +30,7 @@ pub record IsPart (exp : List ℕ) (reply : Reply) : Type 0 where
   pub ended : (name : List ℕ) → reply ≢ replies.More name
   pub shuts : closes reply ≡ true → reply ≡ stuck_by_journal exp
 
--- what is told of the whole behind so many that were answered `in`: nothing yet, or that this reply ended it. For the text of one that closes the
+-- what is told of the whole after so many that were answered `in`: nothing yet, or that this reply ended it. For the text of one that closes the
 -- controller no memory is wanting.
 abbrev pub TellsWhole : List ℕ → ℕ → Reply → Result (Option Reply) Memory → Type 0
 TellsWhole exp played reply (Ok None) = is_in reply ≡ true
@@ -42,7 +42,7 @@ abbrev pub ObeysEvent : List ℕ → Wiring → LinkEvent → Seen → Seen → 
 ObeysEvent exp text event before now old new result =
     (opens : List OpenSwap) (devices : ℕ) → devices ≤ before.faults.devices → WorksWith before old opens → Obeyed devices before now (JudgedEvent exp text event old.lab opens) old new opens (Some exp) result
 
--- how it ended: it was answered, and the next may come or the whole is told; or the plant stopped; or memory was wanting, before it was done or behind it
+-- how it ended: it was answered, and the next may come or the whole is told; or the plant stopped; or memory was wanting, before it was done or after it
 abbrev pub EndsEvent : List ℕ → ℕ → (Result Reply CoreFault → Type 0) → Result (Option Reply) CoreFault → Type 0
 EndsEvent exp played Leaves (Ok None) = (reply : Reply) × (is_in reply ≡ true) × IsPart exp reply × Leaves (Ok reply)
 EndsEvent exp played Leaves (Ok (Some whole)) = (reply : Reply) × (is_in reply ≡ false) × IsPart exp reply × (whole ≡ played_of exp played (Some reply)) × Leaves (Ok reply)

@@ -31,7 +31,7 @@ use Rattle.swap_turns.specs.Whole.{SwapSteps}
 use Rattle.cost_rule.specs.declared.rule.RuleNumber.{RuleNumber}
 use Rattle.lab_core.specs.Sessions.{OpenSwap, Session, Closed, Open, Terms, Setting, After, name_in, names_of}
 use Rattle.lab_tasks.specs.OpenNames.{is_among, name_of}
-use Rattle.lab_core.specs.Breaks.{Breaks, StartsBehind}
+use Rattle.lab_core.specs.Breaks.{Breaks, StartsAfter}
 use Rattle.lab_tasks.specs.Tasks.{Task, Tell, Append, Swap, BeginOnly, Turn, Finish, Recover}
 use Rattle.lab_judge.specs.Judge.{Judged}
 use Rattle.lab_core.specs.Recovery.{Opens, BreaksOpening, Recovers}
@@ -48,7 +48,7 @@ pub record WantsMemory (s : LabState) (own : List Event) (after : After) : Type 
   pub nothing : own ≡ []
   pub after_is : after ≡ record { reply = None; lab = s; session = Closed }
 
--- what stands behind a part of an append: nothing, a call that failed, or the start of a stopped plant
+-- what stands after a part of an append: nothing, a call that failed, or the start of a stopped plant
 pub data Behind (side : Side) (more : List Event) : Type 0 where
   nothing : more ≡ [] → Behind side more
   missed : more ≡ Missed side ∷ [] → Behind side more
@@ -105,7 +105,7 @@ end_session opens outcome = Open opens
 
 -- the reply is told
 pub data IsAnswered (reply : Option Reply) (opens : List OpenSwap) (outcome : Outcome) (behind : List Event) (after : After) : Type 0 where
-  is_told : StartsBehind outcome behind → after.reply ≡ reply → after.session ≡ end_session opens outcome → IsAnswered reply opens outcome behind after
+  is_told : StartsAfter outcome behind → after.reply ≡ reply → after.session ≡ end_session opens outcome → IsAnswered reply opens outcome behind after
 
 -- A SWAP: a record that says a move, by which the experiment moves so; the commands of that course and of its undo; and the record that ends
 -- it, as far as it came
@@ -129,7 +129,7 @@ BeginSteps s entry move steps after Unwritten = IsBroken records.missed s entry 
 BeginSteps s entry move steps after Halted = IsBroken records.nothing s entry move steps after
 BeginSteps s entry move steps after outcome = ⊥
 
--- A SWAP IS ONLY BEGUN: it is open afterwards, behind the others, and nothing of it was sent
+-- A SWAP IS ONLY BEGUN: it is open afterwards, after the others, and nothing of it was sent
 abbrev pub begun_at : SwapOf → ℕ → OpenSwap
 begun_at p devices = record { running = opened_swap p; devices = devices }
 

@@ -7,11 +7,11 @@ use Rattle.script_text.specs.declared.reply.Reply.{Reply}
 use Rattle.script_text.specs.declared.reply.Reply.TheVariants as replies
 use Rattle.lab_tasks.specs.Tasks.{Task}
 use Rattle.lab_core.specs.LabSteps.{IsDoneBy, Replies, WantsMemory}
-use Rattle.lab_core.specs.Moments.{IsLengthBehind}
+use Rattle.lab_core.specs.Moments.{IsLengthAfter}
 use Rattle.lab_core.specs.Sessions.{OpenSwap, Setting, After, open_by, shut_by}
 
 -- WHAT A LIST IS, by the places in it: whether nothing is left there; what is judged of the command that comes next, in a lab and beside open swaps, by the
--- journal's length and limit; the place behind a reply to it; and the reply to the whole, where it ends there
+-- journal's length and limit; the place after a reply to it; and the reply to the whole, where it ends there
 pub record Listing (X : Type 0) : Type 1 where
   pub is_over : X → Bool
   pub Judges : X → Setting → LabState → List OpenSwap → Result Task Reply → Type 0
@@ -34,16 +34,16 @@ last_reply l at (Some replies.Stopped) = Some replies.Stopped
 last_reply l at (Some reply) = Some (l.whole (l.behind at reply))
 
 module _ {X : Type 0} (l : Listing X) (base : Ground) (trace : Option (List Event)) where
-  -- THE NEXT COMMAND, behind these steps: judged in that lab, by the journal's length there, which is longer by the records that they append; and where the
+  -- THE NEXT COMMAND, after these steps: judged in that lab, by the journal's length there, which is longer by the records that they append; and where the
   -- trace is told, it is as the sides read
   pub record DoesNext (front : List Event) (at : X) (s : LabState) (opens : List OpenSwap) (steps : List Event) (after : After) : Type 0 where
     pub more : l.is_over at ≡ false
     pub length : ℕ
-    pub length_is : IsLengthBehind trace front base.limit length
+    pub length_is : IsLengthAfter trace front base.limit length
     pub longer : length ≡ base.length + appended front
     pub done : IsDoneBy (l.Judges at (set_at base length) s opens) (set_at base length) s opens steps after
 
-  -- SOME OF THEM ARE DONE, each answered and with the controller open behind it: the steps, the place, the lab and the open swaps behind them
+  -- SOME OF THEM ARE DONE, each answered and with the controller open after it: the steps, the place, the lab and the open swaps after them
   pub data Past (start : X) (s : LabState) (opens : List OpenSwap) : List Event → X → LabState → List OpenSwap → Type 0 where
     none : Past start s opens [] start s opens
     more : (front : List Event) (at : X) (mid : LabState) (between : List OpenSwap) → Past start s opens front at mid between

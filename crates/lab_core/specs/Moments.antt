@@ -46,8 +46,8 @@ abbrev pub with_more : Option (List Event) → List Event → Option (List Event
 with_more None steps = None
 with_more (Some trace) steps = Some (trace ++ steps)
 
--- the journal's length behind these steps, as the sides read there, where the trace is told; it is within the limit
-pub record IsLengthBehind (trace : Option (List Event)) (steps : List Event) (limit n : ℕ) : Type 0 where
+-- the journal's length after these steps, as the sides read there, where the trace is told; it is within the limit
+pub record IsLengthAfter (trace : Option (List Event)) (steps : List Event) (limit n : ℕ) : Type 0 where
   pub told : IfSome trace (λ t. IsLengthAt (t ++ steps) n)
   pub within : n ≤ limit
 

@@ -1,4 +1,4 @@
--- The state behind a call of `obey`, over every plant.
+-- The state after a call of `obey`, over every plant.
 use Rattle.std.specs.Prelude.{◌≡◌, ◌↔◌, ◌≤◌, ℕ, Bool, true, false, List, [], ◌∷◌, ◌++◌, not, Option, Some, None, Result, Ok, Err, IfOk, IfSome, IsErrOf, IsTrue}
 use Rattle.lab_base.specs.Counts.{Rose}
 use Rattle.plant.specs.Disks.{ArePossible}
@@ -48,7 +48,7 @@ Doing = Option (List Event) → List Event → After → Type 0
 abbrev pub Wanting : Type 1
 Wanting = Option (List Event) → List Event → LabState → List OpenSwap → Type 0
 
--- each image that is possible behind these steps stands for a lab that the command leads to by them
+-- each image that is possible after these steps stands for a lab that the command leads to by them
 abbrev pub AllShut : Doing → Option (List Event) → List Event → Reply → (List ℕ → List ℕ → List Event) → List Event → Type 0
 AllShut Done trace own reply behind t = (a b : List ℕ) → ArePossible (t ++ own) a b → (lab : LabState) × StandForLab a b lab × Done trace (own ++ behind a b) (shut_by (Some reply) lab)
 

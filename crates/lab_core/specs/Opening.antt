@@ -1,4 +1,4 @@
--- The steps that a call of `open` adds to a trace, and the state behind them.
+-- The steps that a call of `open` adds to a trace, and the state after them.
 use Rattle.std.specs.Prelude.{Bool, ◌≡◌, ◌⊎◌, ◌<◌, ◌≤◌, ◌+◌, ◌*◌, ℕ, true, false, count_by, List, [], ◌++◌, take, Option, Result, Ok, Err, IfSome}
 use Rattle.plant.specs.Disks.{disk, ArePossible}
 use Rattle.std.specs.List.{list_any}
@@ -60,7 +60,7 @@ pub record ReadSteps (trace steps : List Event) : Type 0 where
   pub alike : ReadAlike (disk A (trace ++ steps)).reads (disk B (trace ++ steps)).reads (disk A trace).reads (disk B trace).reads
   pub sound : IsSound the_texts trace → IsSound the_texts (trace ++ steps)
 
--- THE SIDES ARE A JOURNAL: each of its records can follow, and behind them is room for the last records of the experiments that move
+-- THE SIDES ARE A JOURNAL: each of its records can follow, and after them is room for the last records of the experiments that move
 pub record IsJournal (a b : List ℕ) (limit : ℕ) : Type 0 where
   pub records : List Record
   pub lab : LabState
@@ -156,7 +156,7 @@ InSettling trace reading moving limit faults.Stopped = SettlesInPart trace readi
 InSettling trace reading moving limit faults.Memory = SettlesToMemory trace reading moving limit
 InSettling trace reading moving limit (faults.Bad side at) = ⊥
 
--- or a call failed in the move of the journal behind it, or the plant stopped in that
+-- or a call failed in the move of the journal after it, or the plant stopped in that
 abbrev pub InShifting : List Event → List Event → List Event → ℕ → OpenFault → Type 0
 InShifting trace reading behind limit faults.Plant = (has_miss behind ≡ true) × ShiftsInPart trace reading behind limit
 InShifting trace reading behind limit faults.Stopped = ShiftsInPart trace reading behind limit
@@ -166,7 +166,7 @@ abbrev pub OpenEnds : List Event → List Event → List Event → ℕ → Resul
 OpenEnds trace reading behind limit (Ok c) = HasOpened trace reading behind limit c
 OpenEnds trace reading behind limit (Err fault) = ((behind ≡ []) × ReadEnds trace reading limit (Err fault)) ⊎ (InSettling trace reading behind limit fault ⊎ InShifting trace reading behind limit fault)
 
--- WHAT AN OPENING ADDED: a part that reads, and behind it the settling of all experiments that move and the journal's move; it starts no plant, no reading failed in it,
+-- WHAT AN OPENING ADDED: a part that reads, and after it the settling of all experiments that move and the journal's move; it starts no plant, no reading failed in it,
 -- and a sound trace stays sound
 pub record OpenSteps (trace reading behind : List Event) (limit : ℕ) (result : Result Control OpenFault) : Type 0 where
   pub reads : ReadSteps trace reading

@@ -1,4 +1,4 @@
--- When a task can be done beside the open swaps, and the replies behind an append and behind the settling of all that moves.
+-- When a task can be done beside the open swaps, and the replies after an append and after the settling of all that moves.
 use Rattle.std.specs.Prelude.{Result, Ok, Err, ◌<◌, ℕ, List, length, Option, Some, None}
 use Rattle.journal_disk.specs.declared.fault.AppendFault.{AppendFault}
 use Rattle.journal_disk.specs.declared.fault.AppendFault.TheVariants as appending

@@ -26,16 +26,16 @@ module _ (exp : List ℕ) where
   none_left (event ∷ left) = false
 
   -- up to the first that isn't answered `in`
-  abbrev pub behind_event : Playing → Reply → Playing
-  behind_event p (replies.In name) = record p { left = drop 1 p.left; played = p.played + 1 }
-  behind_event p reply = record p { left = drop 1 p.left; ended = Some reply }
+  abbrev pub after_event : Playing → Reply → Playing
+  after_event p (replies.In name) = record p { left = drop 1 p.left; played = p.played + 1 }
+  after_event p reply = record p { left = drop 1 p.left; ended = Some reply }
 
   -- EVENTS IN TURN: the reply to the whole is `played E K`, with the reply that ended it
   abbrev pub events_in_turn : Listing Playing
   events_in_turn = record {
     is_over = λ p. is_some p.ended || none_left p.left;
     Judges = λ p set s opens. JudgedNext p.text p.left s opens;
-    behind = behind_event;
+    behind = after_event;
     whole = λ p. played_of exp p.played p.ended;
   }
 

@@ -1,4 +1,4 @@
--- THE WIRING BEHIND A PLAY: the events that were answered `in` led to it, one after another.
+-- THE WIRING AFTER A PLAY: the events that were answered `in` led to it, one after another.
 use Rattle.std.specs.Prelude.{◌≡◌, ℕ, false, List, [], ◌∷◌, ◌++◌, length, Option, Some, None, Ok}
 use Rattle.virt_topo.specs.declared.experiment.Experiment.{Experiment}
 use Rattle.virt_topo.specs.declared.wiring.Wiring.{Wiring}
@@ -13,7 +13,7 @@ use Rattle.ns_text.specs.declared.read.Script.{Script}
 use Rattle.script_text.specs.Replies.{played_of}
 use Rattle.script_text.specs.declared.reply.Reply.{Reply}
 
--- behind one event, whose link has its shape: the wiring whose canonical text is that of the one that the event leaves
+-- after one event, whose link has its shape: the wiring whose canonical text is that of the one that the event leaves
 pub record IsWiredBy (event : LinkEvent) (text before after : Wiring) : Type 0 where
   pub shaped : lacks_shape event.link text before ≡ false
   pub left : Wiring
@@ -21,7 +21,7 @@ pub record IsWiredBy (event : LinkEvent) (text before after : Wiring) : Type 0 w
   pub as_text : the_texts.top after ≡ the_texts.top left
   pub has_text : HasText the_texts after
 
--- behind some of them
+-- after some of them
 abbrev pub AreWiredBy : Wiring → List LinkEvent → Wiring → Wiring → Type 0
 AreWiredBy text [] before after = after ≡ before
 AreWiredBy text (event ∷ events) before after = (mid : Wiring) × IsWiredBy event text before mid × AreWiredBy text events mid after

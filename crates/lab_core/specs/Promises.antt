@@ -1,4 +1,4 @@
--- THE PROMISES OF A BATCH, behind some of its runs.
+-- THE PROMISES OF A BATCH, after some of its runs.
 use Rattle.std.specs.Prelude.{◌≡◌, Ok, ◌≤◌, ◌<◌, ◌+◌, ℕ, Bool, true, false, List, [], ◌∷◌, ◌++◌, length}
 use Rattle.std.specs.List.{list_any}
 use Rattle.lab_base.specs.Lists.{Has}
@@ -20,13 +20,13 @@ use Rattle.lab_judge.specs.Serving.{claimers_of}
 
 -- what is left for promises alone: a node that no experiment claims at once, and one that a single experiment claims, which the batch swapped in, from
 -- its run's end on
-abbrev pub left_behind : LabState → List End → List Left
-left_behind u ends = left_for (claimers_of (length (lab_in u.lab).nodes) u.experiments) ends []
+abbrev pub left_for_promises : LabState → List End → List Left
+left_for_promises u ends = left_for (claimers_of (length (lab_in u.lab).nodes) u.experiments) ends []
 
 -- ALL PROMISES ARE KEPT in that lab: at each moment of each of these runs, from the batch's own moment up to and without the run's end, they fit on what
 -- is left then
 abbrev pub AreKept : LabState → ℕ → List Promise → List End → Type 0
-AreKept u moment promises ends = (end : End) (t : ℕ) → Has ends end → moment ≤ t → t < end.at → FitsAt (lab_in u.lab) (left_behind u ends) promises t
+AreKept u moment promises ends = (end : End) (t : ℕ) → Has ends end → moment ≤ t → t < end.at → FitsAt (lab_in u.lab) (left_for_promises u ends) promises t
 
 -- THE RUNS THAT WERE ANSWERED `in`, each with its end, by the replies to the first runs of a batch
 abbrev pub end_if : ℕ → Run → Reply → List End
@@ -46,7 +46,7 @@ is_stuck_reply reply = false
 abbrev pub some_stuck : List Reply → Bool
 some_stuck told = list_any is_stuck_reply told
 
--- A BATCH KEEPS ITS PROMISES: its text has promises and runs, and its reply is that of the runs, in order. Unless an experiment got stuck, in the lab behind
+-- A BATCH KEEPS ITS PROMISES: its text has promises and runs, and its reply is that of the runs, in order. Unless an experiment got stuck, in the lab after
 -- it all its promises are kept in all the runs that were answered `in`.
 abbrev pub KeepsPromises : ℕ → List ℕ → Served → LabState → Type 0
 KeepsPromises moment text served u =

@@ -21,7 +21,7 @@ use Rattle.lab_judge.specs.Serving.{Serving}
 use Rattle.lab_core.specs.BatchList.{JudgedRun, runs_in_turn}
 use Rattle.lab_core.specs.Sessions.{OpenSwap, names_of}
 
--- the ends behind a run
+-- the ends after a run
 abbrev pub ends_if : Bool → Queue → Run → List End
 ends_if inside queue run = if inside then queue.ends ++ record { exp = run.exp; at = queue.moment + run.length } ∷ [] else queue.ends
 
@@ -38,13 +38,13 @@ abbrev pub ObeysRun : RuleNumber → Queue → Run → Seen → Seen → Control
 ObeysRun rule queue run before now old new result =
     (opens : List OpenSwap) (devices : ℕ) → devices ≤ before.faults.devices → WorksWith before old opens → ObeysRunBeside rule queue run before now old new opens devices result
 
--- these are the replies so far, and that one behind them
-abbrev pub IsToldBehind : Served → Reply → Served → Type 0
-IsToldBehind so_far reply next = (told : List Reply) → so_far ≡ served_of told → next ≡ served_of (told ++ reply ∷ [])
+-- these are the replies so far, and that one after them
+abbrev pub IsToldAfter : Served → Reply → Served → Type 0
+IsToldAfter so_far reply next = (told : List Reply) → so_far ≡ served_of told → next ≡ served_of (told ++ reply ∷ [])
 
--- how it ended: it was answered, and its reply is told; or the plant stopped; or memory was wanting, before it was done or behind it
+-- how it ended: it was answered, and its reply is told; or the plant stopped; or memory was wanting, before it was done or after it
 abbrev pub EndsRun : Served → List ℕ → (Result Reply CoreFault → Type 0) → Result (Served × Bool) CoreFault → Type 0
-EndsRun so_far exp Leaves (Ok next) = (reply : Reply) × IsPart exp reply × (next.1 ≡ is_in reply) × IsToldBehind so_far reply next.0 × Leaves (Ok reply)
+EndsRun so_far exp Leaves (Ok next) = (reply : Reply) × IsPart exp reply × (next.1 ≡ is_in reply) × IsToldAfter so_far reply next.0 × Leaves (Ok reply)
 EndsRun so_far exp Leaves (Err faults.Stopped) = Leaves (Err faults.Stopped)
 EndsRun so_far exp Leaves (Err faults.Memory) = Leaves (Err faults.Memory) ⊎ ((reply : Reply) × (closes reply ≡ false) × IsPart exp reply × Leaves (Ok reply))
 

@@ -9,7 +9,7 @@ use Rattle.swap_turns.specs.Swaps.{Swap}
 use Rattle.swap_turns.specs.Turning.{Outcome}
 use Rattle.recovery.specs.Due.{swaps_of}
 use Rattle.recovery.specs.Settle.{is_ended, is_stuck}
-use Rattle.lab_core.specs.Breaks.{Breaks, StartsBehind}
+use Rattle.lab_core.specs.Breaks.{Breaks, StartsAfter}
 use Rattle.lab_core.specs.Sessions.{OpenSwap, Closed, Open, After, names_of}
 
 -- of these swaps, each with how its settling ended, that of the name met no trouble
@@ -31,7 +31,7 @@ pub record SettlesFirst (s : LabState) (busy : List (List ℕ)) (steps : List Ev
 pub data SettlesSome (s : LabState) (busy : List (List ℕ)) (steps : List Event) (after : LabState) : Type 0 where
   some : SettlesFirst s busy steps after → SettlesSome s busy steps after
   within : (outcome : Outcome) (front behind : List Event) → steps ≡ front ++ behind → BreaksOff s (swaps_of busy s.experiments) front outcome after
-      → (behind ≡ []) ⊎ StartsBehind outcome behind → SettlesSome s busy steps after
+      → (behind ≡ []) ⊎ StartsAfter outcome behind → SettlesSome s busy steps after
 
 -- THE OPENING of a closed controller: a part that reads, then the settling of all experiments that move, and then perhaps the journal's move onto its
 -- other side

@@ -47,7 +47,7 @@ counted_from opens (Some exp) count = devices_if (open_at exp opens) count
 abbrev pub WasOpen : List OpenSwap → OpenSwap → Type 0
 WasOpen old o = (q : OpenSwap) × Has old q × (name_in q ≡ name_in o) × (q.devices ≡ o.devices)
 
--- the reply tells that the swap of the name has ended. Where the journal is why, the reply closes the controller, and no swap is open behind it.
+-- the reply tells that the swap of the name has ended. Where the journal is why, the reply closes the controller, and no swap is open after it.
 abbrev pub ends_swap : Option Reply → List ℕ → Bool
 ends_swap None name = false
 ends_swap (Some (replies.In exp)) name = bytes_eq exp name
@@ -102,7 +102,7 @@ pub record After : Type 0 where
   pub lab : LabState
   pub session : Session
 
--- it answers, and the controller is closed behind it; or open, with these open swaps
+-- it answers, and the controller is closed after it; or open, with these open swaps
 abbrev pub shut_by : Option Reply → LabState → After
 shut_by reply lab = record { reply = reply; lab = lab; session = Closed }
 

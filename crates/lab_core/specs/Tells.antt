@@ -102,7 +102,7 @@ TellsEnd s exp (More name) after = (name ≡ exp) × (after ≡ s)
 TellsEnd s exp (Trouble name what) after = (name ≡ exp) × (after ≡ s)
 TellsEnd s exp reply after = Unit {0}
 
--- ONE OPEN SWAP MORE, behind the others, of an experiment that moves so in that lab: nothing of it was sent
+-- ONE OPEN SWAP MORE, after the others, of an experiment that moves so in that lab: nothing of it was sent
 pub record IsOpened (exp : List ℕ) (devices : ℕ) (lab : LabState) (old new : List OpenSwap) : Type 0 where
   pub swap : SwapOf
   pub name : swap.name ≡ exp
@@ -129,7 +129,7 @@ is_of_journal event = false
 abbrev pub has_journal_step : List Event → Bool
 has_journal_step events = list_any is_of_journal events
 
--- one device command, and behind it no other, and no step of the journal
+-- one device command, and after it no other, and no step of the journal
 pub record SendsOne (own : List Event) : Type 0 where
   pub op : DeviceOp
   pub applied : Bool

@@ -1,4 +1,4 @@
-// The journal's move onto its other side, behind the settling of an opening.
+// The journal's move onto its other side, after the settling of an opening.
 ghost use Rattle.std.specs.Prelude.{◌≡◌, ◌↔◌, ◌<◌, ◌≤◌, ◌*◌, ◌-◌, ◌^◌, ◌&&◌, nat_le, nat_lt, false, IfOk, OnOk, IsErrOf, IsTrue};
 ghost use Rattle.lab_base.specs.Counts.{Rose};
 ghost use Rattle.journal_disk.specs.Epochs.{epoch_of};

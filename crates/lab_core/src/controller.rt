@@ -211,7 +211,7 @@ impl Controller {
     /// Obeys a command whose blocks have the lines that its words say, and tells the reply. A drill is none of its commands:
     /// those are planned on the plant. Searches count costs by the rule. After a reply that closes, and after `Stopped`, the
     /// controller is of no use any more. Failures of devices are counted from the moment or from any before it, such as a mark
-    /// that an opening lies behind.
+    /// that an opening lies after.
     /// `Stopped` is told exactly where the plant is stopped then, if it ran before the call: a command that sends nothing doesn't meet
     /// an earlier stop.
     ///

@@ -56,10 +56,10 @@ use swap_mgr::MAX_OPEN;
 /// failed or stopped and a reply is told, to one reply and one lab. The reply to a swap tells where its experiment is.
 /// Experiments of other names stay, whatever the reply. Where the command settles what moves, those that don't move stay, and those with an open
 /// swap. A drill leaves all as it was. The plant stopped exactly where the reply is `stopped`.
-/// The lines of a reply to `batch` are replies to the first runs of its text, in order, and where one tells that an experiment is, there it is behind
+/// The lines of a reply to `batch` are replies to the first runs of its text, in order, and where one tells that an experiment is, there it is after
 /// the whole, if no later run is of it. The reply to `play` tells how many events were answered `in`, and the reply that ended it, if one did; then the
 /// experiment is where that tells, and in still where that is a refusal; else it is in.
-/// Where that reply doesn't close the controller, so many of the due events, in their order, led to the wiring that the experiment has behind it.
+/// Where that reply doesn't close the controller, so many of the due events, in their order, led to the wiring that the experiment has after it.
 /// Each wiring is the one that its event leaves, where the text is sound, the events keep the limits, and the wiring of before has a text.
 /// A reply that is of no steps comes without any of the command's own: a refusal, and a reply that only tells something, of lists and audits too.
 /// A reading of a device failed exactly where the reply is `unread` with its name. Only an audit is answered so, and that reading is its one step.
@@ -136,7 +136,7 @@ pub fn lab_steps()
 /// Open swaps, over lab steps that leave the controller open.
 /// Each of another name than the command's is open as it was, so `recover` leaves all. Their names differ where they did, and no more than sixteen
 /// are open. One that `open` begins is one more, of which nothing was sent. The experiment of each open swap moves, where it did before the step.
-/// A turn sends one device command, or appends one record. One that breaks off sends no more than one, and nothing of the journal behind it. The
+/// A turn sends one device command, or appends one record. One that breaks off sends no more than one, and nothing of the journal after it. The
 /// reply to a turn, or to all up to the end, tells where the experiment is.
 /// Both leave the world of each other experiment as it was, over any trace and however they end: each row that it wants, and each node that it
 /// claims.
@@ -181,8 +181,8 @@ pub fn open_swaps()
         → LabStepBy (Ok (Finish exp)) terms set s (Open opens) command opening own after → after.reply ≡ Some reply → TellsEnd s exp reply after.lab }
 {}
 
-/// Recoveries: behind an opening in which none got stuck, and behind a `recover` that tells so, no experiment moves but those with an open swap.
-/// An experiment whose own settling met no trouble is at rest behind both, also where another's did.
+/// Recoveries: after an opening in which none got stuck, and after a `recover` that tells so, no experiment moves but those with an open swap.
+/// An experiment whose own settling met no trouble is at rest after both, also where another's did.
 pub fn recoveries()
     ensures opened { (s mid : LabState) (opening : List Event) → Sane s → (is : Opens s opening mid) → count_by is_stuck is.outcomes ≡ 0
         → (e : Experiment) → Has mid.experiments e → is_moving e ≡ false }
@@ -231,7 +231,7 @@ pub fn labs_are_kept()
         → IsAsSaid (world_of trace) s }
 {}
 
-/// A batch keeps its promises. Behind one that is served, with no experiment stuck by it, all promises fit at each moment of each of its runs that are
+/// A batch keeps its promises. After one that is served, with no experiment stuck by it, all promises fit at each moment of each of its runs that are
 /// in, on what is left then: the nodes that no experiment claims, and those of its own runs that have ended.
 /// So a later run of a batch breaks no promise that an earlier one was tested by. A mapping that a search finds is shaped for the lab and the wiring.
 pub fn promises()

@@ -91,7 +91,7 @@ fn enter_written(lab: &mut LabState, prepared: Prepared, written: &Result<(), Ap
     }
 }
 
-/// The reply behind an append for which there was room.
+/// The reply after an append for which there was room.
 fn reply_of_append(reply: Reply, written: Result<(), AppendFault>) -> Result<Reply, CoreFault>
     requires { (length size : ℕ) → written ≡ Err (AppendFault.Full length size) → ⊥ }
     ensures { result ≡ append_answer reply written }
@@ -105,7 +105,7 @@ fn reply_of_append(reply: Reply, written: Result<(), AppendFault>) -> Result<Rep
     }
 }
 
-/// The reply behind the settling of all experiments that move.
+/// The reply after the settling of all experiments that move.
 fn reply_of_settling(settled: Result<Settled, SettleFault>) -> Result<Reply, CoreFault>
     ensures { result ≡ recover_answer settled }
 {

@@ -29,7 +29,7 @@ pub(crate) fn is_in(reply: &Reply) -> bool
 }
 
 /// The reply to `play` where the last record of an event's swap can't be written. It is made before that swap begins, since
-/// nothing may be wanting behind it.
+/// nothing may be wanting after it.
 fn stuck_reply(alloc: Global, exp: Name, played: u64) -> Result<Reply, Memory>
     ensures { IfOk result (λ reply. reply ≡ played_of exp played (Some (stuck_by_journal exp))) }
 {
@@ -90,7 +90,7 @@ impl Controller {
         }
     }
 
-    /// Plays one event behind so many that were answered `in`, and tells the reply to the whole where that ends it.
+    /// Plays one event after so many that were answered `in`, and tells the reply to the whole where that ends it.
     fn play_next<P: Plant>(
         &mut self,
         exp: Name,

@@ -9,7 +9,7 @@ ghost use Rattle.lab_core.specs.Controller.{CanWork, WorksWith};
 ghost use Rattle.lab_core.specs.InTurn.{IsPart, stuck_by_journal};
 ghost use Rattle.lab_core.specs.Obey.{ObeysCommand};
 ghost use Rattle.lab_judge.specs.JudgeRun.{CanServe};
-ghost use Rattle.lab_core.specs.Queues.{EndsRun, IsToldBehind, ObeysRun, ObeysRuns, ends_if, first_place};
+ghost use Rattle.lab_core.specs.Queues.{EndsRun, IsToldAfter, ObeysRun, ObeysRuns, ends_if, first_place};
 ghost use Rattle.lab_core.specs.Sessions.{OpenSwap};
 
 use crate::perform::space_of;
@@ -25,9 +25,9 @@ use script_text::{FailedEnd, MAX_MOMENT, Reply, Served};
 use std::alloc::Global;
 
 /// The replies so far, where the last record of a run's swap can't be written. They are made before that swap begins, since nothing may be
-/// wanting behind it.
-fn told_if_stuck(alloc: Global, told: &Served, exp: Name) -> Result<Served, Memory>
-    ensures { IfOk result (IsToldBehind told.now (stuck_by_journal exp)) }
+/// wanting after it.
+fn replies_if_stuck(alloc: Global, told: &Served, exp: Name) -> Result<Served, Memory>
+    ensures { IfOk result (IsToldAfter told.now (stuck_by_journal exp)) }
 {
     let stuck = Reply::Failed {
         exp,
@@ -38,7 +38,7 @@ fn told_if_stuck(alloc: Global, told: &Served, exp: Name) -> Result<Served, Memo
 }
 
 /// The replies so far and that one to a run. `stuck` is told where the controller is closed.
-fn told_behind(
+fn replies_after(
     alloc: Global,
     told: &Served,
     exp: Name,
@@ -46,8 +46,8 @@ fn told_behind(
     stuck: Served,
 ) -> Result<Served, Memory>
     requires part { IsPart exp reply.now }
-    requires stuck { IsToldBehind told.now (stuck_by_journal exp) stuck }
-    ensures told { IfOk result (IsToldBehind told.now reply.now) }
+    requires stuck { IsToldAfter told.now (stuck_by_journal exp) stuck }
+    ensures told { IfOk result (IsToldAfter told.now reply.now) }
     ensures memory { IsErr result → closes reply.now ≡ false }
 {
     if reply.closes() {
@@ -99,7 +99,7 @@ impl Controller {
         }
     }
 
-    /// Serves one run behind those whose replies were told so far. It gives what is told then, and whether the run is in.
+    /// Serves one run after those whose replies were told so far. It gives what is told then, and whether the run is in.
     fn serve_next<P: Plant>(
         &mut self,
         queue: &Queue,
@@ -112,7 +112,7 @@ impl Controller {
         requires works { CanWork (P.seen plant.old) self.old }
         ensures { EndsRun told.now run.now.exp (ObeysRun rule.now.number queue.now run.now (P.seen plant.old) (P.seen plant.new) self.old self.new) result }
     {
-        let stuck = told_if_stuck(self.alloc, told, run.exp)?;
+        let stuck = replies_if_stuck(self.alloc, told, run.exp)?;
         let reply = match self.serve_run(queue, run, rule, plant) {
             Ok(reply) => reply,
             Err(fault) => {
@@ -120,7 +120,7 @@ impl Controller {
                 return Err(fault);
             }
         };
-        let next = told_behind(self.alloc, told, run.exp, &reply, stuck)?;
+        let next = replies_after(self.alloc, told, run.exp, &reply, stuck)?;
         Ok((next, is_in(&reply)))
     }
 

@@ -10,7 +10,7 @@ ghost use Rattle.lab_core.specs.Moments.{IsLiveAt, IsNoJournal};
 ghost use Rattle.lab_core.specs.Opening.{HasRead, IsJournal};
 
 /// Two sides that are no journal are none at one place alone, and then they are no journal with room.
-/// Where both are blank, behind an opening that reads them side A is live, with epoch 1, and no other.
+/// Where both are blank, after an opening that reads them side A is live, with epoch 1, and no other.
 pub fn journals()
     ensures not_both { (a b : List ℕ) (limit : ℕ) (side : Side) (at : ℕ) → IsJournal a b limit → IsNoJournal a b limit side at → ⊥ }
     ensures one_place { (a b : List ℕ) (limit : ℕ) (side other : Side) (at place : ℕ) → IsNoJournal a b limit side at → IsNoJournal a b limit other place

@@ -217,7 +217,7 @@ fn undone_by(inside: bool) -> FailedEnd
     }
 }
 
-/// The reply behind a swap that is over: the side on which the experiment is, or the trouble that began the undo.
+/// The reply after a swap that is over: the side on which the experiment is, or the trouble that began the undo.
 fn reply_of_over(exp: Name, ended: Ended) -> Reply
     ensures { result ≡ reply_of_over exp ended.inside ended.why }
 {
@@ -232,7 +232,7 @@ fn reply_of_over(exp: Name, ended: Ended) -> Reply
     }
 }
 
-/// The reply behind a turn.
+/// The reply after a turn.
 pub(crate) fn reply_of_progress(exp: Name, progress: Progress) -> Result<Reply, CoreFault>
     ensures { result ≡ progress_answer exp progress }
 {

@@ -44,7 +44,7 @@ number_fields k lt = last_field_again (decimal k) (filled (decimal k) (decimal_n
 named_is : (k : ℕ) → k < 1000000 → named (name_of k) ≡ Some (name_of k)
 named_is k lt = ap (λ b. if b then Some (name_of k) else None) (name_is k lt)
 
--- a word with a name and a number behind it
+-- a word with a name and a number after it
 two_fields : (word : List ℕ) (k m : ℕ) → is_filled word ≡ true → list_all (λ b. not (is_blank b)) word ≡ true → k < 1000000 → m < 1000000
     → fields_of (word ++ 32 ∷ (name_of k ++ 32 ∷ decimal m)) ≡ word ∷ name_of k ∷ decimal m ∷ []
 two_fields word k m some plain first second =

@@ -9,7 +9,7 @@ use Rattle.lab_gen.proofs.Printed.{AreLines, IsLine, IsPart, count_each, count_m
 word : (w : List ℕ) (most : ℕ) → list_all is_printed w ≡ true → length w ≤ most → IsPart most w
 word w most printed short = record { printed = printed; short = short }
 
--- a word behind a part, and a number behind one
+-- a word after a part, and a number after one
 with_word : (a : ℕ) (xs w : List ℕ) (b : ℕ) → IsPart a xs → list_all is_printed w ≡ true → length w ≤ b → IsPart (a + b) (xs ++ w)
 with_word a xs w b first printed short = parts a b xs w first (word w b printed short)
 

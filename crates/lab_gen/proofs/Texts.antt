@@ -12,7 +12,7 @@ text-append xs ys = flat_map-append (λ line. line ++ 10 ∷ []) xs ys
 text-single : (line : List ℕ) → text_of (line ∷ []) ≡ line ++ 10 ∷ []
 text-single line = append-nil (line ++ 10 ∷ [])
 
--- behind a text that begins so, more lines were added
+-- after a text that begins so, more lines were added
 pub lines_added : (start before now : List ℕ) (lines more : List (List ℕ)) → before ≡ start ++ text_of lines → now ≡ before ++ text_of more → now ≡ start ++ text_of (lines ++ more)
 lines_added start before now lines more was new = new ∙ ap (λ t. t ++ text_of more) was ∙ append_assoc start (text_of lines) (text_of more) ∙ ap (λ t. start ++ t) (sym (text-append lines more))
 

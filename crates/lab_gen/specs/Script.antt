@@ -65,13 +65,13 @@ swapout_lines k = if nat_le 3 k then swapout_line (k - 2) ∷ [] else []
 unfoldable pub experiment_lines : ℕ → ℕ → List (List ℕ)
 experiment_lines k n = create_line k n ∷ top_lines n ++ swapin_line k ∷ swapout_lines k
 
--- the generator of a seed behind its first words, and the virtual nodes of experiment k, by word k
-unfoldable pub generator_behind : ℕ → ℕ → Lcg
-generator_behind seed zero = pcg32_of_seed (pcg32_seed 16 seed)
-generator_behind seed (suc k) = (pcg32 (generator_behind seed k)).1
+-- the generator of a seed after its first words, and the virtual nodes of experiment k, by word k
+unfoldable pub generator_after : ℕ → ℕ → Lcg
+generator_after seed zero = pcg32_of_seed (pcg32_seed 16 seed)
+generator_after seed (suc k) = (pcg32 (generator_after seed k)).1
 
 abbrev pub virtual_nodes : ℕ → ℕ → ℕ
-virtual_nodes seed k = 2 + (pcg32 (generator_behind seed (k - 1))).0 % 5
+virtual_nodes seed k = 2 + (pcg32 (generator_after seed (k - 1))).0 % 5
 
 abbrev pub drawn_lines : ℕ → ℕ → List (List ℕ)
 drawn_lines seed k = experiment_lines k (virtual_nodes seed k)
@@ -80,7 +80,7 @@ drawn_lines seed k = experiment_lines k (virtual_nodes seed k)
 unfoldable pub generated_lines : ℕ → List (List ℕ)
 generated_lines seed = codes "ptop 328" ∷ lab_lines ++ flat_map (drawn_lines seed) (numbers 1 40) ++ codes "status" ∷ []
 
--- lines as a text, each with a line feed behind it
+-- lines as a text, each with a line feed after it
 abbrev pub text_of : List (List ℕ) → List ℕ
 text_of lines = flat_map (λ line. line ++ 10 ∷ []) lines
 

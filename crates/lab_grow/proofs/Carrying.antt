@@ -50,7 +50,7 @@ none_of None b h = refl
 none_of (Some x) true h = absurd (cc h)
 none_of (Some x) false h = absurd (cc h)
 
--- an experiment behind others
+-- an experiment after others
 pub record IsLast (name : List ℕ) (done : List Experiment) (g : Experiment) : Type 0 where
   pub found : find name (done ++ g ∷ []) ≡ Some g
   pub replaced : (f : Experiment) → replace name f (done ++ g ∷ []) ≡ done ++ f ∷ []

@@ -1,4 +1,4 @@
--- The packed records of a lab behind another lab's record.
+-- The packed records of a lab after another lab's record.
 use Rattle.std.specs.Prelude.{IfOk}
 use Rattle.std.specs.List.{flat_map}
 use Rattle.std.proofs.Common.{◌≡◌, inl, inr, Result, Ok, Err, Option, Some, ℕ, ◌-◌, ◌≤◌, List, [], ◌∷◌, ◌++◌, length, take, drop, sym, ap, ◌∙◌, arith, append_assoc, length-append}

@@ -1,4 +1,4 @@
-// Records of the experiments of one lab, behind another lab's text.
+// Records of the experiments of one lab, after another lab's text.
 ghost use Rattle.std.specs.Prelude.{List};
 ghost use Rattle.phys_lab.specs.Labs.{Lab};
 ghost use Rattle.phys_lab.specs.Kept.{IsLab};

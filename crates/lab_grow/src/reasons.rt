@@ -44,7 +44,7 @@ fn obstacle_in(
     obstacle_of(alloc, lab, claims, own, map, tags.as_slice())
 }
 
-/// The obstacle of the record of that number, behind those before it.
+/// The obstacle of the record of that number, after those before it.
 fn obstacle_at(alloc: Global, found: &[Found], index: usize) -> Result<Obstacle, Memory>
     requires index { index < length found.now }
     requires records { (f : AnyFound) → Has found.now f → IsRecord f.entry }

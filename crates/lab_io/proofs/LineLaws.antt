@@ -15,7 +15,7 @@ line-text before size text short within =
     let b : nat_lt (2 ^ 32) (before + size) ≡ false = grind (arith, nat_tests) in
     rw (a, b) refl
 
--- one that is longer, or that ends behind the limit, is too long
+-- one that is longer, or that ends beyond the limit, is too long
 pub line-long : (before size : ℕ) (text : List ℕ) → 4096 < length text → line_of before text size ≡ None
 line-long before size text long =
     let a : nat_lt 4096 (length text) ≡ true = grind (arith, nat_tests) in

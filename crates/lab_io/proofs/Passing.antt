@@ -59,9 +59,9 @@ passed_none old new settled stays rest taken lines = record {
   number = lines ∙ omega arith;
 }
 
-whole_behind : (a b : List ℕ) → IsWhole a → IsWhole b → IsWhole (a ++ b)
-whole_behind a b whole (inl none) = subst (λ (l : List ℕ). IsWhole (a ++ l)) (sym none) (subst (λ (l : List ℕ). IsWhole l) (sym (append-nil a)) whole)
-whole_behind a b whole (inr f) = inr (a ++ f.0, ap (λ (l : List ℕ). a ++ l) f.1 ∙ sym (append_assoc a f.0 (10 ∷ [])))
+whole_after : (a b : List ℕ) → IsWhole a → IsWhole b → IsWhole (a ++ b)
+whole_after a b whole (inl none) = subst (λ (l : List ℕ). IsWhole (a ++ l)) (sym none) (subst (λ (l : List ℕ). IsWhole l) (sym (append-nil a)) whole)
+whole_after a b whole (inr f) = inr (a ++ f.0, ap (λ (l : List ℕ). a ++ l) f.1 ∙ sym (append_assoc a f.0 (10 ∷ [])))
 
 -- SOME LINES, AND THEN OTHERS
 pub passed_more : (a b c : Stand) (xs ys : List (List ℕ)) → Passed a b xs → Passed b c ys → Passed a c (xs ++ ys)
@@ -71,7 +71,7 @@ passed_more a b c xs ys p q = record {
   ends = q.ends;
   stays = λ h. p.stays (q.stays h);
   idle = λ h. ap (λ (l : List ℕ). l ++ q.raw) (p.idle h) ∙ q.idle (ended h);
-  whole = λ h. whole_behind p.raw q.raw (p.whole (q.stays h)) (q.whole h);
+  whole = λ h. whole_after p.raw q.raw (p.whole (q.stays h)) (q.whole h);
   lines = λ more may.
       ap (lines_from a.taken) (append_assoc p.raw q.raw more)
       ∙ p.lines (q.raw ++ more) (follows more may)

@@ -3,7 +3,7 @@ use Rattle.std.specs.Prelude.{ℕ, ◌+◌, ◌^◌, ◌==◌, ◌||◌, nat_lt,
 use Rattle.std.specs.List.{slice_split}
 use Rattle.std.specs.Str.Lines.{strip_carriage_return}
 
--- A line: its text, or nothing where it is too long: it has more than 4,096 bytes, or it ends behind byte 2 ^ 32 of the
+-- A line: its text, or nothing where it is too long: it has more than 4,096 bytes, or it ends beyond byte 2 ^ 32 of the
 -- script, where so many bytes come before it, and it has so many with its end.
 abbrev pub line_of : ℕ → List ℕ → ℕ → Option (List ℕ)
 line_of before text size = if nat_lt 4096 (length text) || nat_lt (2 ^ 32) (before + size) then None else Some text

@@ -46,11 +46,11 @@ Took old End new ended before after = (new ≡ old) × IsAtEnd new × (ended ≡
 
 -- why the line that begins with these bytes is too long, where so many bytes come before it
 pub data IsLong (before : ℕ) (body : List ℕ) (rest : Option (List ℕ)) : Type 0 where
-  -- it goes on, or ends, behind more than 4,096 bytes
+  -- it goes on, or ends, after more than 4,096 bytes
   above : NoFeed body → 4096 < length (without_return body) → IsLong before body rest
   -- it is the last one, whose carriage return is its own
   above_last : NoFeed body → IsAtEnd rest → 4096 < length body → IsLong before body rest
-  -- it goes on behind the script's limit
+  -- it goes on after the script's limit
   beyond : NoFeed body → 2 ^ 32 < before + length body → IsLong before body rest
   -- it ends there
   ends_beyond : (line : List ℕ) → body ≡ line ++ 10 ∷ [] → NoFeed line → 2 ^ 32 < before + length body → IsLong before body rest

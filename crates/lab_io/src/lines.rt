@@ -263,7 +263,7 @@ impl LineReader {
         self.lines
     }
 
-    /// Takes the next line. Behind the end it answers the end again, and after a fault that fault, and reads nothing.
+    /// Takes the next line. After the end it answers the end again, and after a fault that fault, and reads nothing.
     /// It asks the source only while no line feed is pending. So it keeps at most 4,097 bytes and one piece of 4,096. It passes over no read that
     /// failed.
     pub fn next<S: Source>(&mut self, source: &mut S) -> Result<Line, LineFault>

@@ -16,7 +16,7 @@ pub enum Line {
 /// The reason why there is no line.
 #[derive(Clone, Copy, Debug, PartialEq, Eq)]
 pub enum LineFault {
-    /// The line of that number, from 1, has more than 4,096 bytes, or ends behind the limit of the script.
+    /// The line of that number, from 1, has more than 4,096 bytes, or ends beyond the limit of the script.
     TooLong(u64),
     /// The source failed before the line's end.
     ReadFault,

@@ -11,7 +11,7 @@ use Rattle.script_text.specs.declared.reply.Reply.{Reply}
 use Rattle.script_text.specs.declared.reply.Reply.TheVariants as replies
 use Rattle.cost_rule.specs.declared.rule.RuleNumber.{RuleNumber}
 use Rattle.lab_tasks.specs.Tasks.{Task, Tell, Append, Swap, BeginOnly, Turn, Finish, Recover}
-use Rattle.lab_tasks.specs.Needs.{OrRefused, asked, need_meaning, need_place, refused}
+use Rattle.lab_tasks.specs.Needs.{OrRefused, asked, need_meaning, need_lab_and_name, refused}
 use Rattle.lab_tasks.specs.Mappings.{judged_modify_with, in_slot, judged_swapin_with}
 use Rattle.lab_judge.specs.Judge.{Is, Judged, JudgedCreate, judged_wiring, judged_create_top, judged_delete, judged_ptop}
 use Rattle.lab_judge.specs.Searches.{JudgedModify, JudgedSwapin}
@@ -84,7 +84,7 @@ module _ (s : LabState) (busy : Bool) (count : ℕ) where
   wiring_fits : (exp : List ℕ) (lines : ℕ) (text : List ℕ) (w : Wiring) → FitsNew exp lines text (judged_wiring s exp w)
   wiring_fits exp lines text w = grind arith
 
-  place_inner : (exp : List ℕ) (reply : Reply) → need_place s exp ≡ Err reply → is_outer reply ≡ false
+  place_inner : (exp : List ℕ) (reply : Reply) → need_lab_and_name s exp ≡ Err reply → is_outer reply ≡ false
   place_inner exp reply is = grind arith
 
   meaning_inner : (exp : List ℕ) (meaning : Result Wiring TextFault) (reply : Reply) → need_meaning (replies.Bad exp) meaning ≡ Err reply → is_outer reply ≡ false
@@ -93,7 +93,7 @@ module _ (s : LabState) (busy : Bool) (count : ℕ) where
 
   network_fits : (exp : List ℕ) (lines : ℕ) (text : List ℕ) (j : Result Task Reply) → JudgedCreate s exp text j → FitsNew exp lines text j
   network_fits exp lines text j (refused reply needed is) = subst (FitsNew exp lines text) (sym is) (place_inner exp reply needed)
-  network_fits exp lines text j (asked place needed t) = by t.judged
+  network_fits exp lines text j (asked occupied needed t) = by t.judged
     where
       by : OrRefused (need_meaning (replies.Bad exp) t.meaning) (λ w. Is (judged_wiring s exp w)) j → FitsNew exp lines text j
       by (refused reply needed is) = subst (FitsNew exp lines text) (sym is) (meaning_inner exp t.meaning reply needed)

@@ -29,7 +29,7 @@ use Rattle.swap_turns.proofs.Begins.{moves_out}
 use Rattle.swap_turns.specs.Swaps.{swap_out}
 use Rattle.swap_txn.specs.States.{unsent}
 use Rattle.lab_tasks.specs.declared.task.Task.TheVariants as tasks
-use Rattle.lab_tasks.specs.Needs.{need_place}
+use Rattle.lab_tasks.specs.Needs.{need_lab_and_name}
 use Rattle.lab_judge.specs.Judge.{lab_reply, created_reply}
 use Rattle.lab_state.specs.Texts.{the_texts}
 use Rattle.lab_tasks.specs.Tasks.{CanDo, EndsNoMove, IsMild, MayFollow}
@@ -62,19 +62,19 @@ module _ (s : LabState) where
         ready = λ v. tt;
       }
 
-  placed : (exp : List ℕ) → need_place s exp ≡ Ok tt → (lab : Lab) × (s.lab ≡ Some lab) × (find exp s.experiments ≡ None)
-  placed exp place = by s.lab (find exp s.experiments) refl refl
+  placed : (exp : List ℕ) → need_lab_and_name s exp ≡ Ok tt → (lab : Lab) × (s.lab ≡ Some lab) × (find exp s.experiments ≡ None)
+  placed exp occupied = by s.lab (find exp s.experiments) refl refl
     where
       by : (l : Option Lab) (o : Option Experiment) → s.lab ≡ l → find exp s.experiments ≡ o → (lab : Lab) × (s.lab ≡ Some lab) × (find exp s.experiments ≡ None)
-      by None o is found = let h = rw is at place in absurd (cc h)
+      by None o is found = let h = rw is at occupied in absurd (cc h)
       by (Some lab) None is found = (lab, is, found)
-      by (Some lab) (Some e) is found = let h = rw (is, found) at place in absurd (cc h)
+      by (Some lab) (Some e) is found = let h = rw (is, found) at occupied in absurd (cc h)
 
-  pub can_create : (exp : List ℕ) (w : Wiring) (top : List ℕ) (entry : Record) (reply : Reply) → need_place s exp ≡ Ok tt → length s.experiments < 256 → IsSound w → is_printable w ≡ true → top ≡ canonical_top w → entry ≡ create_in (has_multiplexed w) exp top → IsRecord entry → reply ≡ created_reply exp w
+  pub can_create : (exp : List ℕ) (w : Wiring) (top : List ℕ) (entry : Record) (reply : Reply) → need_lab_and_name s exp ≡ Ok tt → length s.experiments < 256 → IsSound w → is_printable w ≡ true → top ≡ canonical_top w → entry ≡ create_in (has_multiplexed w) exp top → IsRecord entry → reply ≡ created_reply exp w
       → CanDo s (tasks.Append entry reply)
-  can_create exp w top entry reply place few sound printable text entry_is is_record reply_is = record {
+  can_create exp w top entry reply occupied few sound printable text entry_is is_record reply_is = record {
     is_record = is_record;
-    follows = let p = placed exp place in subst (λ (r : Record). MayFollow s r) (sym (entry_is ∙ ap (λ (t : List ℕ). create_in (has_multiplexed w) exp t) text)) (created exp w p.0 p.1 p.2 few sound printable);
+    follows = let p = placed exp occupied in subst (λ (r : Record). MayFollow s r) (sym (entry_is ∙ ap (λ (t : List ℕ). create_in (has_multiplexed w) exp t) text)) (created exp w p.0 p.1 p.2 few sound printable);
     no_end = subst EndsNoMove (sym entry_is) (creates_none (has_multiplexed w) exp top);
     mild = subst IsMild (sym reply_is) (refl, refl, refl);
   }

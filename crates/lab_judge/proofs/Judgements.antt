@@ -12,7 +12,7 @@ use Rattle.script_text.specs.declared.command.Command.TheVariants as commands
 use Rattle.script_text.specs.declared.reply.Reply.{Reply}
 use Rattle.script_text.specs.declared.reply.Reply.TheVariants.{Bad, NoLab, LabIsSet}
 use Rattle.cost_rule.specs.declared.rule.RuleNumber.{RuleNumber}
-use Rattle.lab_tasks.specs.Needs.{need_meaning, need_place, refused, asked, OrRefused}
+use Rattle.lab_tasks.specs.Needs.{need_meaning, need_lab_and_name, refused, asked, OrRefused}
 use Rattle.lab_tasks.specs.Tasks.{Task, Gives, IsJudged, IsRefusedBy, task_of}
 use Rattle.lab_tasks.specs.Mappings.{in_slot}
 use Rattle.lab_judge.specs.Judge.{judged_wiring, JudgedCreate, Judged, InSlot, Is}
@@ -41,7 +41,7 @@ refused_once {A} needed Judges a b each (asked x some judged) (asked y some' jud
 
 network_once : (s : LabState) (exp text : List ℕ) (a b : Result Task Reply) → JudgedCreate s exp text a → JudgedCreate s exp text b → a ≡ b
 network_once s exp text a b p q =
-    refused_once (need_place s exp) (λ x. JudgedText exp text (λ w. Is (judged_wiring s exp w))) a b (λ x t u.
+    refused_once (need_lab_and_name s exp) (λ x. JudgedText exp text (λ w. Is (judged_wiring s exp w))) a b (λ x t u.
     refused_once (need_meaning (Bad exp) t.meaning) (λ w. Is (judged_wiring s exp w)) a b (λ w one other. one ∙ sym other) t.judged
     (subst (λ (m : Result Wiring TextFault). OrRefused (need_meaning (Bad exp) m) (λ w. Is (judged_wiring s exp w)) b) (wiring_once text u.meaning t.meaning u.is t.is) u.judged)) p q
 

@@ -25,8 +25,8 @@ least_once cost xs x y a b = elim (cases_Bool (nat_le (a.place + 1) b.place)) [
   | inl before ↦ absurd (omega (arith, leb-true (a.place + 1) b.place before, b.earlier a.place x a.stands (omega (arith, leb-true (a.place + 1) b.place before)), a.least b.place y b.stands))
   | inr not_before ↦ elim (cases_Bool (nat_le (b.place + 1) a.place)) [
     | inl behind ↦ absurd (omega (arith, leb-true (b.place + 1) a.place behind, a.earlier b.place y b.stands (omega (arith, leb-true (b.place + 1) a.place behind)), b.least a.place x a.stands))
-    | inr not_behind ↦
-        let same : a.place ≡ b.place = omega (arith, leb-false (a.place + 1) b.place not_before, leb-false (b.place + 1) a.place not_behind) in
+    | inr not_after ↦
+        let same : a.place ≡ b.place = omega (arith, leb-false (a.place + 1) b.place not_before, leb-false (b.place + 1) a.place not_after) in
         same_Some x y (sym a.stands ∙ ap (λ (n : ℕ). slice_get xs n) same ∙ b.stands)
   ]
 ]

@@ -29,7 +29,7 @@ use Rattle.script_text.specs.declared.reply.Reply.{Reply}
 use Rattle.script_text.specs.declared.reply.Reply.TheVariants.{Lab as LabReply, Created, Shown, Deleted, Listed, Bad, BadPtop}
 use Rattle.lab_tasks.specs.Counts.{nodes_claimed, ids_claimed, nodes_free, ids_free}
 use Rattle.lab_tasks.specs.Mappings.{judged_swapin_with, judged_modify_with, in_slot}
-use Rattle.lab_tasks.specs.Needs.{need_lab, need_none, need_found, need_meaning, need_room, need_open, need_place, need_idle_out, need_idle_in, OrRefused, ◌>>=◌}
+use Rattle.lab_tasks.specs.Needs.{need_lab, need_none, need_found, need_meaning, need_room, need_open, need_lab_and_name, need_idle_out, need_idle_in, OrRefused, ◌>>=◌}
 use Rattle.lab_tasks.specs.Tasks.{Task, Tell, Append, Swap, Turn, Finish, Recover}
 use Rattle.lab_judge.specs.Searches.{JudgedText, JudgedSolve, JudgedSwapin, JudgedModify}
 
@@ -88,7 +88,7 @@ judged_wiring s exp wiring = do
 
 abbrev pub judged_create_top : LabState → List ℕ → List ℕ → Result Task Reply
 judged_create_top s exp text = do
-  place ← need_place s exp
+  occupied ← need_lab_and_name s exp
   wiring ← need_meaning (Bad exp) (wiring_of_text text)
   judged_wiring s exp wiring
 
@@ -138,7 +138,7 @@ Is judgement other = other ≡ judgement
 
 -- `create`: the NS text is asked for its wiring only where nothing refuses before
 abbrev pub JudgedCreate : LabState → List ℕ → List ℕ → Result Task Reply → Type 0
-JudgedCreate s exp text = OrRefused (need_place s exp) (λ place. JudgedText exp text (λ w. Is (judged_wiring s exp w)))
+JudgedCreate s exp text = OrRefused (need_lab_and_name s exp) (λ occupied. JudgedText exp text (λ w. Is (judged_wiring s exp w)))
 
 -- and a swap of it needs room among the open swaps
 pub record InSlot (count : ℕ) (only : Bool) (Judges : Result Task Reply → Type 0) (judgement : Result Task Reply) : Type 0 where

@@ -8,7 +8,7 @@ ghost use Rattle.top_text.specs.Printable.{is_printable};
 ghost use Rattle.virt_topo.specs.Soundness.{IsSound};
 ghost use Rattle.script_text.specs.Blocks.{HasBlocks};
 ghost use Rattle.lab_tasks.specs.Tasks.{CanDo, Gives, IsJudged, IsRefusedBy};
-ghost use Rattle.lab_tasks.specs.Needs.{need_place};
+ghost use Rattle.lab_tasks.specs.Needs.{need_lab_and_name};
 ghost use Rattle.lab_judge.specs.Judge.{is_unjudged, Judged, JudgedCreate, judged_create_top, judged_delete, judged_finish, judged_ptop, judged_recover, judged_show, judged_status, judged_swapout, judged_turn, judged_wiring};
 ghost use Rattle.lab_tasks.specs.OpenNames.{has_open, has_open_for};
 
@@ -21,7 +21,8 @@ use lab_base::{MAX_PAYLOAD_TEXT, Name, TEXT_LIMIT, Text, TextRefused};
 use lab_state::LabState;
 use lab_tasks::{
     NewSwap, Present, Refusal, Task, bad_text, in_slot, judge_modify_with, judge_swapin_with,
-    need_found, need_idle_in, need_idle_out, need_lab, need_none, need_open, need_place, need_room,
+    need_found, need_idle_in, need_idle_out, need_lab, need_lab_and_name, need_none, need_open,
+    need_room,
 };
 use ns_text::{Printed, read_and_print};
 use ptop_text::{print_ptop, read_ptop};
@@ -62,7 +63,7 @@ fn judge_ptop(alloc: Global, state: &LabState, text: &[u8]) -> Result<Task, Refu
 /// Judges a new experiment of a new name by the canonical text of its wiring.
 fn judge_wiring(state: &LabState, exp: Name, wiring: &Wiring, top: Text) -> Result<Task, Refusal>
     // the name is new in a lab
-    requires place { need_place state.now.state exp ≡ Ok tt }
+    requires occupied { need_lab_and_name state.now.state exp ≡ Ok tt }
     // the text is that of the wiring, and a record can hold it
     requires sound { IsSound wiring.now }
     requires text { top ≡ canonical_top wiring.now }
@@ -90,7 +91,7 @@ fn judge_create_top(
     ensures judged { Gives (judged_create_top state.now.state exp text.now) result }
     ensures can { IfOk result (CanDo state.now.state) }
 {
-    need_place(state, exp)?;
+    need_lab_and_name(state, exp)?;
     match read_top(alloc, text) {
         Ok(wiring) => {
             let top = print_top(alloc, &wiring)?;
@@ -106,7 +107,7 @@ fn judge_create(alloc: Global, state: &LabState, exp: Name, text: &[u8]) -> Resu
     ensures judged { IsJudged (JudgedCreate state.now.state exp text.now) result }
     ensures can { IfOk result (CanDo state.now.state) }
 {
-    need_place(state, exp)?;
+    need_lab_and_name(state, exp)?;
     match read_and_print(alloc, text) {
         Ok(Printed { wiring, top }) => judge_wiring(state, exp, &wiring, top),
         Err(refused) => Err(bad_text(exp, refused)),

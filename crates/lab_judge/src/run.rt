@@ -181,7 +181,7 @@ fn waiting(exp: Name, wait: Wait) -> Reply
     }
 }
 
-/// Tells a wait in the place of a swap, where the journal has space for the swap. Where it has none, the swap tells that.
+/// The reply `wait E ..`, unless the journal is full: then the swap's own refusal comes first.
 fn hold_back(alloc: Global, space: Space, task: Task, wait: Wait) -> Result<Task, Memory>
     requires { IsSwapTask task }
     ensures task { IfOk result (λ held. task_of held ≡ held_back (λ entry. space_in space entry) task (Some wait)) }
@@ -210,7 +210,7 @@ fn hold_back(alloc: Global, space: Space, task: Task, wait: Wait) -> Result<Task
     Ok(swap_of(begin, ops))
 }
 
-/// The task of a swap, or what tells its wait in its place.
+/// The task of a swap, or the reply that it has to wait.
 fn held_back(alloc: Global, space: Space, task: Task, wait: Option<Wait>) -> Result<Task, Memory>
     requires { IsSwapTask task }
     ensures task { IfOk result (λ held. task_of held ≡ held_back (λ entry. space_in space entry) task wait) }
@@ -222,7 +222,7 @@ fn held_back(alloc: Global, space: Space, task: Task, wait: Option<Wait>) -> Res
     }
 }
 
-/// Judges the swap of a run to where a search finds a place: it is tested.
+/// Judges the swap of a run to the mapping that a search finds: it is tested.
 fn judge_place(
     alloc: Global,
     case: &Case,

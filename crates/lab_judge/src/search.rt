@@ -55,7 +55,7 @@ pub(crate) fn need_mapping(exp: Name, found: Solved) -> Result<Mapping, Refusal>
 }
 
 /// Tells the mapping that a search found, and its cost.
-fn tell_found(
+fn reply_found(
     alloc: Global,
     lab: &Lab,
     experiment: &Experiment,
@@ -101,10 +101,10 @@ pub(crate) fn judge_solve(
         experiment,
     };
     let found = search(alloc, &case, &experiment.wiring, rule, seed)?;
-    tell_found(alloc, lab, experiment, found)
+    reply_found(alloc, lab, experiment, found)
 }
 
-/// Judges the swap of an experiment that is out to where a search finds a place.
+/// Judges the swap of an experiment that is out to the mapping that a search finds.
 fn judge_entry(alloc: Global, case: &Case, rule: &StepRule, seed: u64) -> Result<Task, Refusal>
     requires out { IsOutIn case.now.state.now.state case.now.lab.now case.now.experiment.now }
     requires sound { IsSound case.now.experiment.now.wiring }
@@ -118,7 +118,7 @@ fn judge_entry(alloc: Global, case: &Case, rule: &StepRule, seed: u64) -> Result
     Ok(task)
 }
 
-/// Judges a swap-in to where a search finds a place.
+/// Judges a swap-in to the mapping that a search finds.
 pub(crate) fn judge_swapin(
     alloc: Global,
     present: &Present,
@@ -138,16 +138,16 @@ pub(crate) fn judge_swapin(
     judge_entry(alloc, &case, rule, seed)
 }
 
-/// Judges a change of an experiment that is in there, to that wiring, and to where a search finds a place.
+/// Judges a change of an experiment that is in there, to that wiring, and to the mapping that a search finds.
 fn judge_move(
     alloc: Global,
     case: &Case,
-    place: (&Mapping, &Tags),
+    occupied: (&Mapping, &Tags),
     wiring: Wiring,
     rule: &StepRule,
     seed: u64,
 ) -> Result<Task, Refusal>
-    requires inside { IsInIn case.now.state.now.state case.now.lab.now case.now.experiment.now place.0.now place.1.now }
+    requires inside { IsInIn case.now.state.now.state case.now.lab.now case.now.experiment.now occupied.0.now occupied.1.now }
     requires sound { IsSound wiring }
     ensures judged { IsJudged (JudgedFound rule.now.number case.now.state.now.state case.now.lab.now case.now.experiment.now wiring seed
         (judged_move case.now.state.now.state case.now.lab.now case.now.experiment.now wiring)) result }
@@ -155,11 +155,11 @@ fn judge_move(
 {
     let found = search(alloc, case, &wiring, rule, seed)?;
     let mapping = need_mapping(case.experiment.name, found)?;
-    let task = change_to(alloc, case, place, wiring, mapping)?;
+    let task = change_to(alloc, case, occupied, wiring, mapping)?;
     Ok(task)
 }
 
-/// Judges a change by the wiring of an NS text, to where a search finds a place.
+/// Judges a change by the wiring of an NS text, to the mapping that a search finds.
 pub(crate) fn judge_modify(
     alloc: Global,
     present: &Present,

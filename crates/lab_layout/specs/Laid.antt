@@ -5,7 +5,7 @@ use Rattle.lab_view.specs.declared.view.View.{View}
 use Rattle.lab_view.specs.Lines.{has_lone}
 use Rattle.lab_layout.specs.declared.limits.TheConstants.{LEAST_WIDE, LEAST_HIGH, MAX_CELLS}
 use Rattle.lab_picture.specs.declared.geometry.Geometry.{Geometry}
-use Rattle.lab_picture.specs.declared.geometry.Place.{Place}
+use Rattle.lab_picture.specs.declared.geometry.Bounds.{Bounds}
 use Rattle.lab_picture.specs.declared.geometry.Point.{Point}
 use Rattle.lab_picture.specs.declared.geometry.Card.{Card}
 use Rattle.lab_picture.specs.declared.geometry.Echo.{Echo}
@@ -23,7 +23,7 @@ pub record HasPlaces (v : View) (g : Geometry) : Type 0 where
   pub entries : length g.entries ≡ length v.experiments
 
 -- a box, a point, a card, and a second card where there is one, within a sheet of that width and height
-abbrev pub IsIn : ℕ → ℕ → Place → Type 0
+abbrev pub IsIn : ℕ → ℕ → Bounds → Type 0
 IsIn wide high p = (p.x + p.wide ≤ wide) × (p.y + p.high ≤ high)
 
 abbrev pub IsPointIn : ℕ → ℕ → Point → Type 0
@@ -45,23 +45,23 @@ pub record IsWithin (g : Geometry) : Type 0 where
   pub entries : All (IsPointIn g.wide g.high) g.entries
 
 -- one box ends where the other begins, or before, from left to right or from top to bottom
-abbrev pub IsApart : Place → Place → Type 0
+abbrev pub IsApart : Bounds → Bounds → Type 0
 IsApart p q = (p.x + p.wide ≤ q.x) ⊎ ((q.x + q.wide ≤ p.x) ⊎ ((p.y + p.high ≤ q.y) ⊎ (q.y + q.high ≤ p.y)))
 
 -- a box has room for a machine's name
-abbrev pub HasRoom : Place → Type 0
+abbrev pub HasRoom : Bounds → Type 0
 HasRoom p = (LEAST_WIDE ≤ p.wide) × (LEAST_HIGH ≤ p.high)
 
 -- MACHINES DON'T OVERLAP, and each has its room
-pub record AreApart (cells : List Place) : Type 0 where
+pub record AreApart (cells : List Bounds) : Type 0 where
   pub apart : AllPairs IsApart cells
   pub room : All HasRoom cells
 
 -- machines below one another, which is how they stand where they would overlap
-abbrev pub stacked : ℕ → Place
+abbrev pub stacked : ℕ → Bounds
 stacked number = record { x = 40; y = 138 + 49 * number; wide = LEAST_WIDE; high = LEAST_HIGH }
 
-abbrev pub all_stacked : ℕ → List Place
+abbrev pub all_stacked : ℕ → List Bounds
 all_stacked count = map stacked (range_with_len 0 count)
 
 -- A LAID PICTURE; a lab has at most 1,024 machines

@@ -4,7 +4,7 @@ ghost use Rattle.lab_layout.specs.Laid.{IsApart, HasRoom, AreApart, stacked, all
 
 use crate::limits::{LEAST_HIGH, LEAST_WIDE, MAX_CELLS};
 use lab_base::{Items, Memory};
-use lab_picture::Place;
+use lab_picture::Bounds;
 use std::alloc::Global;
 
 /// Whether an edge ends where another begins, or before.
@@ -14,31 +14,31 @@ fn is_before(start: u32, size: u32, next: u32) -> bool
     u64::from(start) + u64::from(size) <= u64::from(next)
 }
 
-fn is_beside(one: Place, other: Place) -> bool
+fn is_beside(one: Bounds, other: Bounds) -> bool
     ensures { IsTrue result ↔ ((one.x + one.wide ≤ other.x) ⊎ (other.x + other.wide ≤ one.x)) }
 {
     is_before(one.x, one.wide, other.x) || is_before(other.x, other.wide, one.x)
 }
 
-fn is_above(one: Place, other: Place) -> bool
+fn is_above(one: Bounds, other: Bounds) -> bool
     ensures { IsTrue result ↔ ((one.y + one.high ≤ other.y) ⊎ (other.y + other.high ≤ one.y)) }
 {
     is_before(one.y, one.high, other.y) || is_before(other.y, other.high, one.y)
 }
 
-fn is_apart(one: Place, other: Place) -> bool
+fn is_apart(one: Bounds, other: Bounds) -> bool
     ensures { IsTrue result ↔ IsApart one other }
 {
     is_beside(one, other) || is_above(one, other)
 }
 
-fn has_room(place: Place) -> bool
+fn has_room(place: Bounds) -> bool
     ensures { IsTrue result ↔ HasRoom place }
 {
     place.wide >= LEAST_WIDE && place.high >= LEAST_HIGH
 }
 
-fn is_apart_from(one: Place, others: &[Place]) -> bool
+fn is_apart_from(one: Bounds, others: &[Bounds]) -> bool
     ensures { IsTrue result ↔ All (IsApart one) others.now }
 {
     for other in others {
@@ -49,7 +49,7 @@ fn is_apart_from(one: Place, others: &[Place]) -> bool
     true
 }
 
-fn all_have_room(places: &[Place]) -> bool
+fn all_have_room(places: &[Bounds]) -> bool
     ensures { IsTrue result ↔ All HasRoom places.now }
 {
     for place in places {
@@ -60,7 +60,7 @@ fn all_have_room(places: &[Place]) -> bool
     true
 }
 
-fn all_are_apart(places: &[Place]) -> bool
+fn all_are_apart(places: &[Bounds]) -> bool
     ensures { IsTrue result ↔ AllPairs IsApart places.now }
 {
     for (number, place) in places.iter().enumerate() {
@@ -72,11 +72,11 @@ fn all_are_apart(places: &[Place]) -> bool
 }
 
 /// Where the machine of that number stands in a column of all.
-fn stacked(number: usize) -> Place
+fn stacked(number: usize) -> Bounds
     requires { number < MAX_CELLS }
     ensures { result ≡ stacked number }
 {
-    Place {
+    Bounds {
         x: 40,
         y: 138 + 49 * number as u32,
         wide: LEAST_WIDE,
@@ -85,7 +85,7 @@ fn stacked(number: usize) -> Place
 }
 
 /// Machines below one another.
-fn column(alloc: Global, count: usize) -> Result<Items<Place>, Memory>
+fn column(alloc: Global, count: usize) -> Result<Items<Bounds>, Memory>
     requires { count ≤ MAX_CELLS }
     ensures len { IfOk result (λ cells. length cells ≡ count) }
     ensures cells { IfOk result (λ cells. cells ≡ all_stacked count) }
@@ -98,14 +98,14 @@ fn column(alloc: Global, count: usize) -> Result<Items<Place>, Memory>
     Ok(cells)
 }
 
-fn are_apart(places: &[Place]) -> bool
+fn are_apart(places: &[Bounds]) -> bool
     ensures { IsTrue result ↔ AreApart places.now }
 {
     all_have_room(places) && all_are_apart(places)
 }
 
 /// These boxes, where no two overlap and each has room. No lab is known of which that isn't so; machines stand below one another then.
-pub(crate) fn set_apart(alloc: Global, cells: Items<Place>) -> Result<Items<Place>, Memory>
+pub(crate) fn set_apart(alloc: Global, cells: Items<Bounds>) -> Result<Items<Bounds>, Memory>
     ensures len { IfOk result (λ apart. length apart ≡ length cells) }
     ensures apart { IfOk result (λ apart. length cells ≤ MAX_CELLS → AreApart apart) }
 {

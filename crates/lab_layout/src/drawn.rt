@@ -9,7 +9,7 @@ use crate::layout::{CELL_HIGH, GAP, Layout, Plan, fitting, head_high, head_scale
 use crate::limits::MAX_CELLS;
 use crate::lists::{entries_of, lists_high, marks_of, second};
 use crate::machines::cell_width;
-use crate::px::{Place, Px};
+use crate::px::{Bounds, Px};
 use crate::rows::Rows;
 use crate::tree::forest_of;
 use crate::trunks::{card_of, echo_of, trunks_of};
@@ -71,10 +71,10 @@ fn row_of(number: usize, columns: usize) -> usize {
 }
 
 /// Where the machine with so many before it stands in a band with rows of so many.
-fn cell_of(band: Place, columns: usize, cell: Px, number: usize) -> lab_picture::Place {
+fn cell_of(band: Bounds, columns: usize, cell: Px, number: usize) -> lab_picture::Bounds {
     let row = row_of(number, columns);
     let column = number.saturating_sub(row.saturating_mul(columns));
-    small(Place {
+    small(Bounds {
         x: band.x + (cell + GAP) * column as u64,
         y: band.y + (CELL_HIGH + GAP) * row as u64,
         wide: cell,
@@ -84,9 +84,9 @@ fn cell_of(band: Place, columns: usize, cell: Px, number: usize) -> lab_picture:
 
 /// Notes where the machines of a band stand.
 fn note_cells(
-    cells: &mut [lab_picture::Place],
+    cells: &mut [lab_picture::Bounds],
     numbers: &[usize],
-    band: Place,
+    band: Bounds,
     columns: usize,
     cell: Px,
 ) {
@@ -97,14 +97,14 @@ fn note_cells(
     }
 }
 
-const NOWHERE: lab_picture::Place = lab_picture::Place {
+const NOWHERE: lab_picture::Bounds = lab_picture::Bounds {
     x: 0,
     y: 0,
     wide: 0,
     high: 0,
 };
 
-fn bare_cells(alloc: Global, count: usize) -> Result<Vec<lab_picture::Place>, Memory>
+fn bare_cells(alloc: Global, count: usize) -> Result<Vec<lab_picture::Bounds>, Memory>
     ensures { IfOk result (λ cells. length cells.items ≡ count) }
 {
     let mut cells = Vec::new(alloc);
@@ -119,7 +119,7 @@ fn cells_of(
     alloc: Global,
     plan: Plan<'_>,
     layout: &Layout,
-) -> Result<Items<lab_picture::Place>, Memory>
+) -> Result<Items<lab_picture::Bounds>, Memory>
     ensures { IfOk result (λ cells. length cells ≡ length plan.entry.view.now.machines) }
 {
     let mut cells = bare_cells(alloc, plan.view.machines.len())?;
@@ -147,7 +147,7 @@ fn cells_apart(
     alloc: Global,
     plan: Plan<'_>,
     layout: &Layout,
-) -> Result<Items<lab_picture::Place>, Memory>
+) -> Result<Items<lab_picture::Bounds>, Memory>
     ensures len { IfOk result (λ cells. length cells ≡ length plan.entry.view.now.machines) }
     ensures apart { IfOk result (λ cells. length plan.entry.view.now.machines ≤ MAX_CELLS → AreApart cells) }
 {
@@ -208,8 +208,8 @@ fn lists_top(layout: &Layout) -> Px {
 }
 
 /// The strip of VLAN ids below a layout, as wide as that.
-fn strip_below(layout: &Layout, across: Px) -> lab_picture::Place {
-    small(Place {
+fn strip_below(layout: &Layout, across: Px) -> lab_picture::Bounds {
+    small(Bounds {
         x: MARGIN,
         y: layout.high + 40,
         wide: across,

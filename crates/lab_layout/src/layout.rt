@@ -5,7 +5,7 @@ ghost use Rattle.lab_view.specs.Lines.{has_lone};
 use crate::columns::{BESIDE, Columns, MARGIN, PORT, bare, columns_of_lab, has_both};
 use crate::limits::LEAST_HIGH;
 use crate::machines::{columns_for, rows_high};
-use crate::px::{Place, Px, at, nowhere, set_at, width};
+use crate::px::{Bounds, Px, at, nowhere, set_at, width};
 use crate::rows::Rows;
 use crate::tree::Forest;
 use lab_base::{Items, Memory};
@@ -47,9 +47,9 @@ pub(crate) enum Slot {
 /// Where a switch stands.
 #[derive(Drop)]
 pub(crate) struct Spot {
-    pub(crate) card: Place,
+    pub(crate) card: Bounds,
     /// Its machines.
-    pub(crate) band: Place,
+    pub(crate) band: Bounds,
     pub(crate) columns: usize,
     pub(crate) slots: Items<Slot>,
     /// All that hangs on it.
@@ -66,7 +66,7 @@ pub(crate) struct Layout {
     pub(crate) wide: Px,
     pub(crate) high: Px,
     /// The box of machines without an interface.
-    pub(crate) lone: Place,
+    pub(crate) lone: Bounds,
     pub(crate) lone_columns: usize,
 }
 
@@ -117,8 +117,8 @@ fn row_wide(cell: Px, columns: usize) -> Px {
 }
 
 /// A card with so many slots, whose top isn't known yet.
-fn card_with(x: Px, wide: Px, slots: usize) -> Place {
-    Place {
+fn card_with(x: Px, wide: Px, slots: usize) -> Bounds {
+    Bounds {
         x,
         y: Px(0),
         wide,
@@ -126,9 +126,9 @@ fn card_with(x: Px, wide: Px, slots: usize) -> Place {
     }
 }
 
-/// A band of so many machines behind the last column, whose top isn't known yet.
-fn band_with(end: Px, cell: Px, count: usize, columns: usize) -> Place {
-    Place {
+/// A band of so many machines after the last column, whose top isn't known yet.
+fn band_with(end: Px, cell: Px, count: usize, columns: usize) -> Bounds {
+    Bounds {
         x: end + BESIDE,
         y: Px(0),
         wide: row_wide(cell, columns),
@@ -219,7 +219,7 @@ fn note_top(tops: &mut [Px], slot: Slot, top: Px) {
 
 impl Layout {
     /// The card of a switch.
-    pub(crate) fn card(&self, switch: usize) -> Place {
+    pub(crate) fn card(&self, switch: usize) -> Bounds {
         match self.spots.get(switch) {
             Some(spot) => spot.card,
             None => nowhere(),

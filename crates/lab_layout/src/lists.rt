@@ -50,7 +50,7 @@ fn mark_of(number: usize, shown: usize, across: Px) -> u32 {
     (MARGIN + across * number.min(shown) as u64 / shown as u64).small()
 }
 
-/// By VLAN id where it begins on a strip of that width, and behind the last one where the strip ends.
+/// By VLAN id where it begins on a strip of that width, and after the last one where the strip ends.
 pub(crate) fn marks_of(
     alloc: Global,
     count: usize,

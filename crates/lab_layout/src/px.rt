@@ -77,7 +77,7 @@ impl Px {
 
 /// A box.
 #[derive(Clone, Copy)]
-pub(crate) struct Place {
+pub(crate) struct Bounds {
     pub(crate) x: Px,
     pub(crate) y: Px,
     pub(crate) wide: Px,
@@ -85,8 +85,8 @@ pub(crate) struct Place {
 }
 
 /// A box of no size.
-pub(crate) fn nowhere() -> Place {
-    Place {
+pub(crate) fn nowhere() -> Bounds {
+    Bounds {
         x: Px(0),
         y: Px(0),
         wide: Px(0),

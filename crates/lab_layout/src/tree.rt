@@ -14,7 +14,7 @@ pub(crate) struct Branch {
     pub(crate) children: Items<usize>,
 }
 
-/// The trees: by switch its branch, and the switches in an order in which each stands behind its parent.
+/// The trees: by switch its branch, and the switches in an order in which each stands after its parent.
 #[derive(Drop)]
 pub(crate) struct Forest {
     pub(crate) branches: Vec<Branch>,
@@ -136,7 +136,7 @@ fn take_all(near: &[Items<Near>], left: &mut [usize], switches: &[usize]) {
     }
 }
 
-/// The round behind so many.
+/// The round after so many.
 fn next_round(
     alloc: Global,
     near: &[Items<Near>],

@@ -3,14 +3,14 @@ ghost use Rattle.std.specs.Prelude.{◌≡◌, length, IfOk};
 
 use crate::columns::BESIDE;
 use crate::layout::{Layout, Plan, Slot, Spot, own_slot};
-use crate::px::{Place, Px};
+use crate::px::{Bounds, Px};
 use crate::ways::{line_of, middle, small, way_of, wide_of};
 use lab_base::Memory;
 use lab_picture::{Card, Echo, Label, Line, Point, Way};
 use std::alloc::Global;
 
 /// The card in a box, with its words.
-pub(crate) fn card_of(place: Place) -> Card {
+pub(crate) fn card_of(place: Bounds) -> Card {
     Card {
         place: small(place),
         words: Point {
@@ -21,8 +21,8 @@ pub(crate) fn card_of(place: Place) -> Card {
 }
 
 /// The box of a switch's second card, before its machines.
-fn second_box(last: Px, band: Place) -> Place {
-    Place {
+fn second_box(last: Px, band: Bounds) -> Bounds {
+    Bounds {
         x: last,
         y: middle(band) - 21,
         wide: band.x - BESIDE - last,
@@ -73,7 +73,7 @@ fn bare_trunks(alloc: Global, count: usize) -> Result<Trunks, Memory>
 }
 
 /// A trunk's label, before the card at its end.
-fn label_of(kbps: u64, card: Place) -> Label {
+fn label_of(kbps: u64, card: Bounds) -> Label {
     let half = wide_of(kbps) / 2;
     let y = middle(card);
     Label {

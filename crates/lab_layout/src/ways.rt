@@ -2,7 +2,7 @@
 
 use crate::columns::{PORT, TURN, lane_of};
 use crate::layout::{Layout, Slot, Spot};
-use crate::px::{Place, Px};
+use crate::px::{Bounds, Px};
 use lab_picture::{Bend, Line, Point, Way};
 use lab_view::Trunk;
 
@@ -67,12 +67,12 @@ fn corners(y: Px, lane: Px, below: Px) -> Bend {
 }
 
 /// The right edge of a box.
-fn right(place: Place) -> Px {
+fn right(place: Bounds) -> Px {
     place.x + place.wide
 }
 
 /// The middle of a box from top to bottom.
-pub(crate) fn middle(place: Place) -> Px {
+pub(crate) fn middle(place: Bounds) -> Px {
     place.y + place.high / 2
 }
 
@@ -125,8 +125,8 @@ pub(crate) fn line_of(trunk: &Trunk, way: Way) -> Line {
 }
 
 /// A box as the picture has it.
-pub(crate) fn small(place: Place) -> lab_picture::Place {
-    lab_picture::Place {
+pub(crate) fn small(place: Bounds) -> lab_picture::Bounds {
+    lab_picture::Bounds {
         x: place.x.small(),
         y: place.y.small(),
         wide: place.wide.small(),

@@ -2,7 +2,7 @@
 ghost use Rattle.std.specs.Prelude.{◌≡◌, ◌≤◌, ◌+◌, max, All};
 ghost use Rattle.lab_layout.specs.Laid.{IsIn, IsPointIn, IsCardIn, IsEchoIn};
 
-use lab_picture::{Card, Echo, Place, Point};
+use lab_picture::{Bounds, Card, Echo, Point};
 
 /// How far a picture reaches to the right and down.
 #[derive(Clone, Copy)]
@@ -21,7 +21,7 @@ fn farther(reached: u64, start: u32, size: u32) -> u64
 
 impl Reach {
     /// As far as a box too.
-    pub(crate) fn over(self, place: Place) -> Reach
+    pub(crate) fn over(self, place: Bounds) -> Reach
         ensures wide { self.wide ≤ result.wide }
         ensures high { self.high ≤ result.high }
         ensures inside { IsIn result.wide result.high place }
@@ -55,7 +55,7 @@ impl Reach {
     }
 
     /// As far as all boxes too.
-    pub(crate) fn over_all(self, places: &[Place]) -> Reach
+    pub(crate) fn over_all(self, places: &[Bounds]) -> Reach
         ensures wide { self.wide ≤ result.wide }
         ensures high { self.high ≤ result.high }
         ensures inside { All (IsIn result.wide result.high) places.now }
@@ -109,8 +109,8 @@ impl Reach {
     /// As far as everything in a picture too: its strip, its machines, its cards, and where experiments are listed.
     pub(crate) fn over_picture(
         self,
-        strip: Place,
-        cells: &[Place],
+        strip: Bounds,
+        cells: &[Bounds],
         cards: &[Card],
         echoes: &[Option<Echo>],
         entries: &[Point],

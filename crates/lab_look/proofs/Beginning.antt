@@ -25,7 +25,7 @@ begun_by live other packed rs s told of is is_told = (
 pub none_by : (live other : List ℕ) (rs : List Record) (n : ℕ) → StopsAt the_texts at_first rs n → (false ≡ true) ↔ IsBegunBy live other rs
 none_by live other rs n stops = (λ so. absurd (false≢true so), λ by. absurd (folds_or_stops the_texts at_first rs by.0 n texts_once by.1 stops))
 
--- behind the first records there are only ends, and no more of them pack to what stands there
+-- after the first records there are only ends, and no more of them pack to what stands there
 pub record Tried (live other : List ℕ) (fs : List Found) (count : ℕ) : Type 0 where
   pub within : count ≤ length fs
   pub ends : list_all is_end (drop count (records_of fs)) ≡ true

@@ -8,7 +8,7 @@ use Rattle.lab_base.proofs.Members.{Has-slice_get}
 use Rattle.virt_topo.specs.declared.experiment.Experiment.{Experiment}
 use Rattle.lab_look.specs.Seats.{first_from}
 
--- an element by its place is the next of the list behind those before it
+-- an element by its place is the next of the list after those before it
 pub drop_at : {X : Type 0} (xs : List X) (n : ℕ) (x : X) → slice_get xs n ≡ Some x → drop n xs ≡ x ∷ drop (n + 1) xs
 drop_at [] n x is = absurd (cc is)
 drop_at (y ∷ ys) zero x is = let same : y ≡ x = cc in ap (λ (z : _). z ∷ ys) same

@@ -42,7 +42,7 @@ longer_is_lost live other rs beside is ahead longer =
     let long = longer (take begun.0 rs) (drop begun.0 rs) s (sym (take-append-drop begun.0 rs)) begun.2 begun.3.1 in
     absurd (false≢true (sym (too_long (drop 17 other) (packed_bytes s) long) ∙ begins live other (packed_bytes s) begun.3.2)))
 
--- behind the last record, which ends no move, no fewer records count
+-- after the last record, which ends no move, no fewer records count
 only_all : (front : List Record) (last : Record) (n : ℕ) → is_end last ≡ false → list_all is_end (drop n (front ++ last ∷ [])) ≡ true → length front < n
 only_all front last n never all = elim (cases_lt (length front) n) [
   | inl beyond ↦ beyond

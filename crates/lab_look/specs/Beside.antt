@@ -42,7 +42,7 @@ is_beginning (x ∷ bytes) (y ∷ text) = ((x == y) || (x == 0)) && is_beginning
 abbrev pub is_begun : List ℕ → List ℕ → List ℕ → Bool
 is_begun live other packed = is_next (seen (head live)) (shut_head other) && (nat_le 17 (length other) && is_beginning (drop 17 other) packed)
 
--- what a move of a lab writes behind the header: its packed records, and a closed gate
+-- what a move of a lab writes after the header: its packed records, and a closed gate
 abbrev pub packed_bytes : LabState → List ℕ
 packed_bytes s = blocks (packed_of the_texts s) ++ 0 ∷ []
 
@@ -56,7 +56,7 @@ is_end r = false
 abbrev pub IsBegunBy : List ℕ → List ℕ → List Record → Type 0
 IsBegunBy live other rs = (s : LabState) × LabOf the_texts rs s × (is_begun live other (packed_bytes s) ≡ true)
 
--- A MOVE THAT WAS CUT OFF: of the lab of the live side's records, or of that of its first n, behind which there are only ends of moves. For the next
+-- A MOVE THAT WAS CUT OFF: of the lab of the live side's records, or of that of its first n, after which there are only ends of moves. For the next
 -- opening settles what moves before it moves the journal, and may be cut off between both
 abbrev pub IsBegun : List ℕ → List ℕ → List Record → Type 0
 IsBegun live other rs = (n : ℕ) × (n ≤ length rs) × (list_all is_end (drop n rs) ≡ true) × IsBegunBy live other (take n rs)

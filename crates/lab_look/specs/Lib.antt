@@ -4,5 +4,5 @@ pub mod Looks
 pub mod Beside
 pub mod Reports
 pub mod Records
-pub mod Told
+pub mod CheckLines
 pub mod Shows

@@ -36,7 +36,7 @@ earlier_words = codes " records before these\n"
 unfoldable pub earlier_line : ℕ → List ℕ
 earlier_line count = codes "  .. " ++ decimal count ++ earlier_words
 
--- THE RECORDS THAT ARE LISTED: all where all are wanted; else the last 20, behind a line that counts those before them
+-- THE RECORDS THAT ARE LISTED: all where all are wanted; else the last 20, after a line that counts those before them
 abbrev pub listed : Bool → List Found → List ℕ
 listed all found =
     if all || nat_le (length found) 20 then record_lines found

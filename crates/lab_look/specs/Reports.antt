@@ -33,7 +33,7 @@ is_blank head = false
 abbrev pub is_shut : List ℕ → Bool
 is_shut bytes = is_headed (shut_head bytes) && is_blank (seen (head bytes))
 
--- the whole records behind such a header
+-- the whole records after such a header
 abbrev pub IsShut : List ℕ → Option (List Found) → Type 0
 IsShut bytes None = (is_shut bytes && nat_lt 17 (length bytes)) ≡ false
 IsShut bytes (Some found) = (is_shut bytes ≡ true) × AreThere bytes 17 found
@@ -76,7 +76,7 @@ abbrev pub has_lost : Standing → Bool
 has_lost (standings.On side w found beside) = is_lost beside
 has_lost standing = false
 
--- A SIDE SHOWS DAMAGE: it is cut in its header; or records stand behind its closed header, and the other side has no header. With one, see there
+-- A SIDE SHOWS DAMAGE: it is cut in its header; or records stand after its closed header, and the other side has no header. With one, see there
 abbrev pub is_side_damaged : SideReport → SideReport → Bool
 is_side_damaged own other = own.cut || (has_some own.shut && not (is_headed other.head))
 

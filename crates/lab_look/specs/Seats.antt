@@ -4,7 +4,7 @@ use Rattle.phys_lab.specs.Labs.{Lab}
 use Rattle.virt_topo.specs.declared.experiment.Experiment.{Experiment}
 use Rattle.lab_model.specs.Claims.{claims_it}
 use Rattle.lab_view.specs.declared.view.Seat.{Seat}
-use Rattle.lab_seen.specs.Claimed.{how_held, guests, has_tag}
+use Rattle.lab_seen.specs.Claimed.{how_held, hosted, has_tag}
 
 -- the number of the first experiment that passes, from a number on
 abbrev pub first_from : (Experiment → Bool) → ℕ → List Experiment → Option ℕ
@@ -22,7 +22,7 @@ owner es id = first_from (λ e. has_tag e id) 0 es
 -- how the holder holds it, and with which virtual nodes
 abbrev pub seat_by : Lab → List ℕ → ℕ → Option Experiment → Option Seat
 seat_by lab name n None = None
-seat_by lab name n (Some e) = Some (record { exp = n; held = how_held lab e name; guests = guests lab e name })
+seat_by lab name n (Some e) = Some (record { exp = n; held = how_held lab e name; hosted = hosted lab e name })
 
 abbrev pub seat_at : Lab → List Experiment → List ℕ → Option ℕ → Option Seat
 seat_at lab es name None = None

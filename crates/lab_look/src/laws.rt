@@ -34,7 +34,7 @@ pub fn free_is_unclaimed()
 {}
 
 /// A header of a later epoch behind a closed gate is told as one that was lost where the side is longer than what a move of the live
-/// side's lab writes, as that lab is, and as it was before the ends of moves that are last; also where it has a record behind those that
+/// side's lab writes, as that lab is, and as it was before the ends of moves that are last; also where it has a record after those that
 /// the lab packs, and the last record of the live side ends no move. Where it has a beginning of what a move of such a lab writes, it is
 /// told as a move that was cut off.
 pub fn lost_gates_are_told()

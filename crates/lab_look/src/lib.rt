@@ -2,6 +2,7 @@
 #![tactic(auto)]
 
 mod beside;
+mod checking;
 mod damage;
 mod laws;
 mod looked;
@@ -11,10 +12,10 @@ mod seats;
 mod seen;
 mod tables;
 mod text;
-mod told;
 mod trunks;
 
 pub use beside::Beside;
+pub use checking::{CheckLines, CheckOptions, check};
 pub use damage::is_damaged;
 pub use laws::{colours_are_claims, free_is_unclaimed, lost_gates_are_told};
 pub use looked::{Looked, look};
@@ -23,4 +24,3 @@ pub use report::{Report, SideReport, Standing, report_of};
 pub use seen::view_of;
 pub use tables::TablesSeen;
 pub use text::{Shown, text_in, text_of};
-pub use told::{Telling, Told, check};

@@ -5,7 +5,7 @@ ghost use Rattle.lab_look.specs.Seats.{holder, owner, seat_by, seat_of};
 use claims::MAX_EXPERIMENTS;
 use lab_base::Memory;
 use lab_model::claims;
-use lab_seen::{guests, has_tag, how_held};
+use lab_seen::{has_tag, hosted, how_held};
 use lab_state::LabState;
 use lab_view::Seat;
 use phys_lab::Lab;
@@ -60,11 +60,11 @@ fn seat_by(
 {
     match state.nth(number as u16) {
         Some(own) => {
-            let found = guests(alloc, lab, own, name)?;
+            let found = hosted(alloc, lab, own, name)?;
             Ok(Some(Seat {
                 exp: number,
                 held: how_held(lab, own, name),
-                guests: found,
+                hosted: found,
             }))
         }
         None => Ok(None),

@@ -51,7 +51,7 @@ wait x state boot end cs fine down few goes = (refl, subst (λ b. Goes cs (cond 
   by_state x Booting boot end cs down few goes = early x _ _ end cs few goes
   by_state x TbSetup boot end cs down few goes = early x _ _ end cs few goes
 
--- polls that wait, and go on behind
+-- polls that wait, and go on after
 waits_go : (x : Watch) (states : List Boot) (boot : List (List ℕ)) (end : Course) (rest : Sent) → AreWaited x.state states → x.polls + length states < 64
     → Goes rest (watching (Some (record { node = x.node; state = last_state x.state states; polls = x.polls + length states })) boot) end
     → Goes (polls x.node states ++ rest) (watching (Some x) boot) end

@@ -1,4 +1,4 @@
--- The part of an experiment behind a done course, as a promise that steps of others keep.
+-- The part of an experiment after a done course, as a promise that steps of others keep.
 use Rattle.std.specs.Str.{bytes_eq}
 use Rattle.std.specs.List.{enumerate_from}
 use Rattle.std.proofs.Common.{◌≡◌, ◌⊎◌, inl, inr, ℕ, true, false, cond, Some, None, Ok, List, [], ◌∷◌, map, refl, sym, ap, ◌∙◌, subst}

@@ -35,27 +35,27 @@ abbrev pub keeps_f1 : Free → Mapping → ℕ → Bool
 keeps_f1 free m v = slice_index_or free.nodes (place_at m v).0.0 false
 
 -- a virtual node on a node: its type there, and its OS
-abbrev pub Guest : Type 0
-Guest = List ℕ × List ℕ
+abbrev pub HostedNode : Type 0
+HostedNode = List ℕ × List ℕ
 
 -- the virtual nodes on node n, in wiring order
-abbrev pub guests : List VirtNode → List Place → ℕ → List Guest
-guests [] places n = []
-guests (v ∷ vs) [] n = []
-guests (v ∷ vs) (p ∷ places) n = if p.0.0 == n then (p.1, v.os) ∷ guests vs places n else guests vs places n
+abbrev pub hosted : List VirtNode → List Place → ℕ → List HostedNode
+hosted [] places n = []
+hosted (v ∷ vs) [] n = []
+hosted (v ∷ vs) (p ∷ places) n = if p.0.0 == n then (p.1, v.os) ∷ hosted vs places n else hosted vs places n
 
 -- the number of the name, 0 where it isn't there
 abbrev pub number_of : List (List ℕ × ℕ) → List ℕ → ℕ
 number_of [] name = 0
 number_of (p ∷ pairs) name = if same_name p.0 name then p.1 else number_of pairs name
 
-abbrev pub agree : List (List ℕ × ℕ) → List Guest → Bool
+abbrev pub agree : List (List ℕ × ℕ) → List HostedNode → Bool
 agree types [] = true
 agree types (g ∷ gs) = list_all (λ h. same_name h.0 g.0 && same_name h.1 g.1) gs && nat_le (length gs + 1) (number_of types g.0)
 
 -- F2: the virtual nodes on node n have one type and one OS and are at most as many as that type's count there
 abbrev pub keeps_f2 : Lab → Wiring → Mapping → ℕ → Bool
-keeps_f2 lab w m n = agree (node_at lab (record { 0 = n })).types (guests w.nodes m.places n)
+keeps_f2 lab w m n = agree (node_at lab (record { 0 = n })).types (hosted w.nodes m.places n)
 
 abbrev pub no_class : Class
 no_class = record { name = []; weight = 0; types = [] }

@@ -11,7 +11,7 @@ use Rattle.lab_view.specs.declared.flags.Flag.{Flag}
 use Rattle.lab_view.specs.Views.{exp_name, free_ids}
 use Rattle.lab_view.specs.Runs.{owner_at, begins_run, run_length}
 use Rattle.lab_view.specs.Flags.{flag_of_exp}
-use Rattle.lab_picture.specs.declared.geometry.Place.{Place}
+use Rattle.lab_picture.specs.declared.geometry.Bounds.{Bounds}
 use Rattle.lab_picture.specs.declared.geometry.Point.{Point}
 use Rattle.lab_picture.specs.declared.geometry.Geometry.{Geometry}
 use Rattle.lab_picture.specs.declared.shapes.Area.{Area}
@@ -81,7 +81,7 @@ unfoldable pub claim_words : Exp → List ℕ
 claim_words e = stand_word e.stand ++ codes ", " ++ decimal e.nodes ++ plural e.nodes (codes " machine, ") (codes " machines, ") ++ decimal e.ids ++ plural e.ids (codes " id") (codes " ids")
 
 -- AN EXPERIMENT in the list: in its colour, with its name and what it claims
-abbrev pub swatch : Point → Place
+abbrev pub swatch : Point → Bounds
 swatch p = record { x = p.x; y = p.y; wide = 32; high = 15 }
 
 unfoldable pub entry_words : Geometry → Point → Exp → List ℕ

@@ -10,12 +10,12 @@ use Rattle.lab_view.specs.declared.flags.Flag.{Flag}
 use Rattle.lab_view.specs.Views.{switch_name, exp_name}
 use Rattle.lab_view.specs.Flags.{flag_of_exp}
 use Rattle.lab_view.specs.Lines.{spaced}
-use Rattle.lab_picture.specs.declared.geometry.Place.{Place}
+use Rattle.lab_picture.specs.declared.geometry.Bounds.{Bounds}
 use Rattle.lab_picture.specs.declared.geometry.Geometry.{Geometry}
 use Rattle.lab_picture.specs.declared.shapes.Area.{Area}
 use Rattle.lab_picture.specs.declared.tags.Piece.TheVariants as tags
 use Rattle.lab_picture.specs.Tags.{tag}
-use Rattle.lab_picture.specs.Places.{place_at}
+use Rattle.lab_picture.specs.Places.{bounds_at}
 use Rattle.lab_picture.specs.Shapes.{area_of, rect, filled, label, fitted}
 
 -- the eight tints, and the eight colours of bars
@@ -53,13 +53,13 @@ unfoldable pub wide_of : ℕ → ℕ
 wide_of n = if n == 0 then 7 else if n == 1 then 4 else if n == 2 then 4 else 3
 
 -- THE BAR OF A FLAG, on white
-unfoldable pub bar_area : Flag → Place → Area
+unfoldable pub bar_area : Flag → Bounds → Area
 bar_area f p = record { x = p.x + indent_of (f.form / 4); y = p.y; wide = wide_of (f.form / 4); high = 0 }
 
-unfoldable pub ground_area : Bool → Place → Area
+unfoldable pub ground_area : Bool → Bounds → Area
 ground_area large p = record { x = p.x + 1; y = p.y + 1; wide = 9; high = if large then 42 else 13 }
 
-unfoldable pub bar : Bool → Flag → Place → List ℕ
+unfoldable pub bar : Bool → Flag → Bounds → List ℕ
 bar large f p = filled (codes "#fff") (codes "bare") (ground_area large p) ++ parts_of large (bar_word f.bar) (bar_area f p) (f.form % 4)
 
 -- the class of the edge of what is held so, and the stripes over its tint
@@ -73,15 +73,15 @@ stripes helds.Goes a = filled (codes "url(#goes)") (codes "move") a
 stripes held a = []
 
 -- A BOX IN THE COLOUR OF AN EXPERIMENT: its tint, stripes where it comes or goes, and its bar
-unfoldable pub tinted : Bool → Flag → Held → Place → List ℕ
+unfoldable pub tinted : Bool → Flag → Held → Bounds → List ℕ
 tinted large f held p = filled (tint_word f.tint) (edge_of held) (area_of p) ++ stripes held (area_of p) ++ bar large f p
 
 -- where there is no flag, the box of what is free
-unfoldable pub coloured : Bool → Option Flag → Held → Place → List ℕ
+unfoldable pub coloured : Bool → Option Flag → Held → Bounds → List ℕ
 coloured large None held p = rect (codes "free") (area_of p)
 coloured large (Some f) held p = tinted large f held p
 
--- names one behind another, where they fit so many letters; else the first one, and how many more there are
+-- names one after another, where they fit so many letters; else the first one, and how many more there are
 abbrev pub names_text : List (List ℕ) → List ℕ
 names_text [] = []
 names_text (name ∷ names) = name ++ flat_map spaced names
@@ -111,23 +111,23 @@ plug_at v plugs n = plug_words v (take n plugs) (slice_get plugs n)
 
 unfoldable pub holder_words : View → Option Seat → List ℕ
 holder_words v None = []
-holder_words v (Some s) = 10 ∷ exp_name v s.exp ++ flat_map spaced s.guests
+holder_words v (Some s) = 10 ∷ exp_name v s.exp ++ flat_map spaced s.hosted
 
 unfoldable pub tip : View → Machine → List ℕ
 tip v m = tag tags.Title ++ m.name ++ flat_map type_words m.types ++ codes "\non" ++ flat_map (plug_at v m.plugs) (range_with_len 0 (length m.plugs))
     ++ holder_words v m.seat ++ tag tags.TitleEnd
 
 -- a free machine, with its types; and one that is held, with the experiment and the virtual nodes
-unfoldable pub free_body : Place → Machine → List ℕ
+unfoldable pub free_body : Bounds → Machine → List ℕ
 free_body p m = rect (codes "free") (area_of p) ++ label (codes "f") (p.x + 14) (p.y + 19) m.name ++ label (codes "k") (p.x + 14) (p.y + 33) (listed (letters_in p.wide) (map (λ t. t.0) m.types))
 
-unfoldable pub held_words : View → Place → Machine → Seat → List ℕ
-held_words v p m s = label (codes "m") (p.x + 14) (p.y + 14) m.name ++ label (codes "e") (p.x + 14) (p.y + 26) (fitted (letters_in p.wide) (exp_name v s.exp)) ++ label (codes "v") (p.x + 14) (p.y + 38) (listed (letters_in p.wide) s.guests)
+unfoldable pub held_words : View → Bounds → Machine → Seat → List ℕ
+held_words v p m s = label (codes "m") (p.x + 14) (p.y + 14) m.name ++ label (codes "e") (p.x + 14) (p.y + 26) (fitted (letters_in p.wide) (exp_name v s.exp)) ++ label (codes "v") (p.x + 14) (p.y + 38) (listed (letters_in p.wide) s.hosted)
 
-unfoldable pub held_body : View → Place → Machine → Seat → List ℕ
+unfoldable pub held_body : View → Bounds → Machine → Seat → List ℕ
 held_body v p m s = coloured true (flag_of_exp v s.exp) s.held p ++ held_words v p m s
 
-unfoldable pub body : View → Place → Machine → Option Seat → List ℕ
+unfoldable pub body : View → Bounds → Machine → Option Seat → List ℕ
 body v p m None = free_body p m
 body v p m (Some s) = held_body v p m s
 
@@ -139,11 +139,11 @@ first_of (Some n) = n
 abbrev pub is_one : List ℕ → Bool
 is_one plugs = list_all (λ m. m == first_of (slice_get plugs 0)) plugs
 
-unfoldable pub corner : Place → List ℕ
+unfoldable pub corner : Bounds → List ℕ
 corner p = tag tags.Also ++ decimal (p.x + p.wide) ++ 32 ∷ [] ++ decimal p.y ++ tag tags.Corner
 
-abbrev pub corner_of : Place → List ℕ → List ℕ
-corner_of p plugs = if is_one plugs then [] else corner p
+abbrev pub corner_if_several : Bounds → List ℕ → List ℕ
+corner_if_several p plugs = if is_one plugs then [] else corner p
 
 -- the head of a group: a machine of an experiment that moves has its words on white
 abbrev pub held_class : Held → List ℕ
@@ -155,12 +155,12 @@ class_of None = tag tags.Group
 class_of (Some s) = held_class s.held
 
 -- A MACHINE: where it is held, in the colour of the experiment that holds it, and else in none
-abbrev pub machine_text : View → Place → Machine → List ℕ
-machine_text v p m = class_of m.seat ++ tip v m ++ body v p m m.seat ++ corner_of p m.plugs ++ tag tags.GroupEnd
+abbrev pub machine_text : View → Bounds → Machine → List ℕ
+machine_text v p m = class_of m.seat ++ tip v m ++ body v p m m.seat ++ corner_if_several p m.plugs ++ tag tags.GroupEnd
 
-abbrev pub machine_in : View → Place → Option Machine → List ℕ
+abbrev pub machine_in : View → Bounds → Option Machine → List ℕ
 machine_in v p None = []
 machine_in v p (Some m) = machine_text v p m
 
 abbrev pub machine_at : Geometry → View → ℕ → List ℕ
-machine_at g v n = machine_in v (place_at g.cells n) (slice_get v.machines n)
+machine_at g v n = machine_in v (bounds_at g.cells n) (slice_get v.machines n)

@@ -1,14 +1,14 @@
 -- Where things stand, by number.
 use Rattle.std.specs.Prelude.{ℕ, List, slice_get, Option, Some, None}
-use Rattle.lab_picture.specs.declared.geometry.Place.{Place}
+use Rattle.lab_picture.specs.declared.geometry.Bounds.{Bounds}
 use Rattle.lab_picture.specs.declared.geometry.Point.{Point}
 
-abbrev pub placed : Option Place → Place
+abbrev pub placed : Option Bounds → Bounds
 placed None = record { x = 0; y = 0; wide = 0; high = 0 }
 placed (Some p) = p
 
-abbrev pub place_at : List Place → ℕ → Place
-place_at places n = placed (slice_get places n)
+abbrev pub bounds_at : List Bounds → ℕ → Bounds
+bounds_at places n = placed (slice_get places n)
 
 abbrev pub pointed : Option Point → Point
 pointed None = record { x = 0; y = 0 }

@@ -1,7 +1,7 @@
 -- Boxes, texts and lines of a picture.
 use Rattle.std.specs.Prelude.{ℕ, ◌-◌, nat_le, if◌then◌else◌, List, [], ◌∷◌, ◌++◌, length, take, codes, decimal, Option, Some, None}
 use Rattle.lab_picture.specs.declared.geometry.Bend.{Bend}
-use Rattle.lab_picture.specs.declared.geometry.Place.{Place}
+use Rattle.lab_picture.specs.declared.geometry.Bounds.{Bounds}
 use Rattle.lab_picture.specs.declared.geometry.Way.{Way}
 use Rattle.lab_picture.specs.declared.tags.Piece.TheVariants as tags
 use Rattle.lab_picture.specs.Tags.{tag}
@@ -11,7 +11,7 @@ use Rattle.lab_picture.specs.declared.shapes.Area.{Area}
 abbrev pub field : List ℕ → ℕ → List ℕ
 field words n = words ++ decimal n
 
-abbrev pub area_of : Place → Area
+abbrev pub area_of : Bounds → Area
 area_of p = record { x = p.x; y = p.y; wide = p.wide; high = p.high }
 
 unfoldable pub area_text : Area → List ℕ

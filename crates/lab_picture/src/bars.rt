@@ -2,7 +2,7 @@
 ghost use Rattle.std.specs.Prelude.{◌≡◌, ◌+◌, ◌<◌, ◌≤◌, ◌^◌, ◌++◌, OnOk};
 ghost use Rattle.lab_picture.specs.Machines.{tint_word, bar_word, part, large_parts, small_parts, parts_of, indent_of, wide_of, bar_area, ground_area, bar, edge_of, stripes, tinted, coloured};
 
-use crate::geometry::Place;
+use crate::geometry::Bounds;
 use crate::shapes::{Area, area_of, push_filled, push_rect};
 use lab_base::{Memory, Text};
 use lab_view::{Flag, Held};
@@ -151,7 +151,7 @@ fn wide_of(place: u8) -> u64
 
 /// Where the bar of a flag stands.
 #[tactic(auto, unfolding(crate::specs::Machines::bar_area))]
-fn bar_area(flag: Flag, place: Place) -> Area
+fn bar_area(flag: Flag, place: Bounds) -> Area
     ensures area { result ≡ bar_area flag place }
     ensures small { result.y < 2 ^ 33 }
 {
@@ -165,7 +165,7 @@ fn bar_area(flag: Flag, place: Place) -> Area
 
 /// The white ground of a bar.
 #[tactic(auto, unfolding(crate::specs::Machines::ground_area))]
-fn ground_area(large: bool, place: Place) -> Area
+fn ground_area(large: bool, place: Bounds) -> Area
     ensures { result ≡ ground_area large place }
 {
     Area {
@@ -178,7 +178,7 @@ fn ground_area(large: bool, place: Place) -> Area
 
 /// The bar of a flag, on white.
 #[tactic(auto, unfolding(crate::specs::Machines::bar))]
-fn push_bar(text: &mut Text, large: bool, flag: Flag, place: Place) -> Result<(), Memory>
+fn push_bar(text: &mut Text, large: bool, flag: Flag, place: Bounds) -> Result<(), Memory>
     ensures { OnOk result (text.new ≡ text.old ++ bar large flag place) }
 {
     push_filled(text, b"#fff", b"bare", ground_area(large, place))?;
@@ -212,7 +212,7 @@ fn push_tinted(
     large: bool,
     flag: Flag,
     held: Held,
-    place: Place,
+    place: Bounds,
 ) -> Result<(), Memory>
     ensures { OnOk result (text.new ≡ text.old ++ tinted large flag held place) }
 {
@@ -228,7 +228,7 @@ pub(crate) fn push_coloured(
     large: bool,
     flag: Option<Flag>,
     held: Held,
-    place: Place,
+    place: Bounds,
 ) -> Result<(), Memory>
     ensures { OnOk result (text.new ≡ text.old ++ coloured large flag held place) }
 {

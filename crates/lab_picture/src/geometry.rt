@@ -1,12 +1,12 @@
 // Where everything stands, in pixels.
 ghost use Rattle.std.specs.Prelude.{◌≡◌};
-ghost use Rattle.lab_picture.specs.Places.{place_at, point_at, mark_at};
+ghost use Rattle.lab_picture.specs.Places.{bounds_at, point_at, mark_at};
 
 use lab_base::Items;
 
-/// A box.
+/// A rectangle.
 #[derive(Clone, Copy)]
-pub struct Place {
+pub struct Bounds {
     pub x: u32,
     pub y: u32,
     pub wide: u32,
@@ -60,7 +60,7 @@ pub struct Label {
 /// A card of a switch, and where its words begin.
 #[derive(Clone, Copy)]
 pub struct Card {
-    pub place: Place,
+    pub place: Bounds,
     pub words: Point,
 }
 
@@ -90,27 +90,27 @@ pub struct Geometry {
     pub lines: Items<Line>,
     pub labels: Items<Label>,
     /// By machine its box.
-    pub cells: Items<Place>,
+    pub cells: Items<Bounds>,
     /// The heading of machines without an interface, if there are any.
     pub lone: Option<Point>,
-    /// By VLAN id where it begins on the strip, and behind the last one where the strip ends.
+    /// By VLAN id where it begins on the strip, and after the last one where the strip ends.
     pub marks: Items<u32>,
-    pub strip: Place,
+    pub strip: Bounds,
     /// The headings of the strip and of the list of experiments.
     pub ids: Point,
     pub list: Point,
-    /// By experiment its entry in the list, and how far behind it what it claims stands.
+    /// By experiment its entry in the list, and how far after it what it claims stands.
     pub entries: Items<Point>,
     pub second: u32,
 }
 
 /// The box of that number, one of no size beyond the last.
-pub(crate) fn place_at(places: &[Place], number: usize) -> Place
-    ensures { result ≡ place_at places.now number }
+pub(crate) fn bounds_at(places: &[Bounds], number: usize) -> Bounds
+    ensures { result ≡ bounds_at places.now number }
 {
     match places.get(number) {
         Some(place) => *place,
-        None => Place {
+        None => Bounds {
             x: 0,
             y: 0,
             wide: 0,

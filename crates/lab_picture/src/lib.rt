@@ -15,6 +15,6 @@ mod tags;
 mod trunks;
 
 pub use frame::{KEY, STYLE};
-pub use geometry::{Bend, Card, Echo, Geometry, Label, Line, Place, Point, Way};
+pub use geometry::{Bend, Bounds, Card, Echo, Geometry, Label, Line, Point, Way};
 pub use picture::draw;
 pub use speeds::thousandths;

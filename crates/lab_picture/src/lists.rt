@@ -8,7 +8,7 @@ ghost use Rattle.lab_picture.specs.Machines.{coloured};
 ghost use Rattle.lab_picture.specs.Lists.{run_wide, run_area, run_boxes, run_title, run_text, run_of, run_at, ids_words, strip_text, held_of, stand_word, name_class, plural, claim_words, swatch, entry_words, entry_at, list_head, list_text};
 
 use crate::bars::{bar_word, push_coloured, tint_word};
-use crate::geometry::{Geometry, Place, Point, mark_at, point_at};
+use crate::geometry::{Bounds, Geometry, Point, mark_at, point_at};
 use crate::machines::exp_name;
 use crate::shapes::{Area, area_of, push_filled, push_label, push_rect};
 use crate::tags::{Piece, tag};
@@ -271,10 +271,10 @@ fn sum(first: u32, second: u32) -> u64
     u64::from(first) + u64::from(second)
 }
 
-fn swatch(point: Point) -> Place
+fn swatch(point: Point) -> Bounds
     ensures { result ≡ swatch point }
 {
-    Place {
+    Bounds {
         x: point.x,
         y: point.y,
         wide: 32,

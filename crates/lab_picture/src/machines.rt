@@ -5,10 +5,10 @@ ghost use Rattle.lab_view.specs.Views.{switch_name, exp_name};
 ghost use Rattle.lab_view.specs.Lines.{spaced};
 ghost use Rattle.lab_view.specs.Flags.{tints_of};
 ghost use Rattle.lab_picture.specs.Shapes.{fitted};
-ghost use Rattle.lab_picture.specs.Machines.{names_text, first_name, listed, letters_in, type_words, plug_at, holder_words, tip, free_body, held_words, body, first_of, is_one, corner, corner_of, held_class, class_of, machine_text, machine_at};
+ghost use Rattle.lab_picture.specs.Machines.{names_text, first_name, listed, letters_in, type_words, plug_at, holder_words, tip, free_body, held_words, body, first_of, is_one, corner, corner_if_several, held_class, class_of, machine_text, machine_at};
 
 use crate::bars::push_coloured;
-use crate::geometry::{Geometry, Place, place_at};
+use crate::geometry::{Bounds, Geometry, bounds_at};
 use crate::shapes::{area_of, push_fitted, push_label, push_rect};
 use crate::tags::{Piece, tag};
 use lab_base::{Items, Memory, Name, Text};
@@ -46,7 +46,7 @@ fn push_spaced(text: &mut Text, names: &[Name]) -> Result<(), Memory>
     Ok(())
 }
 
-/// Names one behind another.
+/// Names one after another.
 fn names_text(alloc: Global, names: &[Name]) -> Result<Text, Memory>
     ensures { IfOk result (λ text. text ≡ names_text names.now) }
 {
@@ -154,7 +154,7 @@ fn push_holder(text: &mut Text, view: &View, seat: &Option<Seat>) -> Result<(), 
         Some(seat) => {
             text.push(b'\n')?;
             text.push_bytes(exp_name(view, seat.exp))?;
-            push_spaced(text, seat.guests.as_slice())
+            push_spaced(text, seat.hosted.as_slice())
         }
         None => Ok(()),
     }
@@ -187,7 +187,7 @@ fn type_names(alloc: Global, machine: &Machine) -> Result<Items<Name>, Memory>
 
 /// A machine that nobody holds.
 #[tactic(auto, unfolding(crate::specs::Machines::free_body))]
-fn push_free(alloc: Global, text: &mut Text, place: Place, machine: &Machine) -> Result<(), Memory>
+fn push_free(alloc: Global, text: &mut Text, place: Bounds, machine: &Machine) -> Result<(), Memory>
     ensures { OnOk result (text.new ≡ text.old ++ free_body place machine.now) }
 {
     let x = u64::from(place.x) + 14;
@@ -213,7 +213,7 @@ fn push_words(
     alloc: Global,
     text: &mut Text,
     view: &View,
-    place: Place,
+    place: Bounds,
     machine: &Machine,
     seat: &Seat,
 ) -> Result<(), Memory>
@@ -222,10 +222,10 @@ fn push_words(
     let x = u64::from(place.x) + 14;
     let y = u64::from(place.y);
     let name = fitted(alloc, exp_name(view, seat.exp), letters_in(place.wide))?;
-    let guests = listed(alloc, seat.guests.as_slice(), letters_in(place.wide))?;
+    let hosted = listed(alloc, seat.hosted.as_slice(), letters_in(place.wide))?;
     push_label(text, b"m", x, y + 14, machine.name.bytes())?;
     push_label(text, b"e", x, y + 26, name.bytes())?;
-    push_label(text, b"v", x, y + 38, guests.bytes())
+    push_label(text, b"v", x, y + 38, hosted.bytes())
 }
 
 /// A machine, in the colour of the experiment that holds it, by the tints of first machines.
@@ -235,7 +235,7 @@ fn push_body(
     text: &mut Text,
     view: &View,
     tints: &[u8],
-    place: Place,
+    place: Bounds,
     machine: &Machine,
 ) -> Result<(), Memory>
     requires { tints.now ≡ tints_of view.now }
@@ -268,9 +268,9 @@ fn is_one(plugs: &[usize]) -> bool
     plugs.iter().all(|plug| *plug == first)
 }
 
-/// A dark corner.
+/// A dark corner, the mark of a machine on several switches.
 #[tactic(auto, unfolding(crate::specs::Machines::corner))]
-fn push_corner(text: &mut Text, place: Place) -> Result<(), Memory>
+fn push_corner(text: &mut Text, place: Bounds) -> Result<(), Memory>
     ensures { OnOk result (text.new ≡ text.old ++ corner place) }
 {
     text.push_bytes(tag(Piece::Also))?;
@@ -280,8 +280,8 @@ fn push_corner(text: &mut Text, place: Place) -> Result<(), Memory>
     text.push_bytes(tag(Piece::Corner))
 }
 
-fn push_corner_of(text: &mut Text, place: Place, plugs: &[usize]) -> Result<(), Memory>
-    ensures { OnOk result (text.new ≡ text.old ++ corner_of place plugs.now) }
+fn push_corner_if_several(text: &mut Text, place: Bounds, plugs: &[usize]) -> Result<(), Memory>
+    ensures { OnOk result (text.new ≡ text.old ++ corner_if_several place plugs.now) }
 {
     if is_one(plugs) {
         Ok(())
@@ -314,7 +314,7 @@ fn push_machine(
     text: &mut Text,
     view: &View,
     tints: &[u8],
-    place: Place,
+    place: Bounds,
     machine: &Machine,
 ) -> Result<(), Memory>
     requires { tints.now ≡ tints_of view.now }
@@ -323,7 +323,7 @@ fn push_machine(
     text.push_bytes(class_of(&machine.seat))?;
     push_tip(text, view, machine)?;
     push_body(alloc, text, view, tints, place, machine)?;
-    push_corner_of(text, place, machine.plugs.as_slice())?;
+    push_corner_if_several(text, place, machine.plugs.as_slice())?;
     text.push_bytes(tag(Piece::GroupEnd))
 }
 
@@ -338,7 +338,7 @@ fn push_machine_at(
     requires { tints.now ≡ tints_of view.now }
     ensures { OnOk result (text.new ≡ text.old ++ machine_at geometry.now view.now number) }
 {
-    let place = place_at(geometry.cells.as_slice(), number);
+    let place = bounds_at(geometry.cells.as_slice(), number);
     match view.machines.as_slice().get(number) {
         Some(machine) => push_machine(alloc, text, view, tints, place, machine),
         None => Ok(()),

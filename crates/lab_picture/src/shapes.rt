@@ -2,7 +2,7 @@
 ghost use Rattle.std.specs.Prelude.{◌≡◌, ◌++◌, ◌-◌, ◌<◌, nat_le, length, take, OnOk};
 ghost use Rattle.lab_picture.specs.Shapes.{area_of, field, area_text, rect, filled, begin, label, fitted, point_text, corners, bend_text, way_text};
 
-use crate::geometry::{Bend, Place, Way};
+use crate::geometry::{Bend, Bounds, Way};
 use crate::tags::{Piece, tag};
 use lab_base::{Memory, Text};
 
@@ -16,7 +16,7 @@ pub struct Area {
 }
 
 /// The box of a place.
-pub(crate) fn area_of(place: Place) -> Area
+pub(crate) fn area_of(place: Bounds) -> Area
     ensures { result ≡ area_of place }
 {
     Area {
@@ -138,7 +138,7 @@ fn push_bend(text: &mut Text, bend: &Option<Bend>) -> Result<(), Memory>
     }
 }
 
-/// A point, behind a letter.
+/// A point, after a letter.
 fn push_point(text: &mut Text, letter: &[u8], x: u32, y: u32) -> Result<(), Memory>
     ensures { OnOk result (text.new ≡ text.old ++ point_text letter.now x y) }
 {

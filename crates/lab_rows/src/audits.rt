@@ -7,7 +7,7 @@ use lab_base::{Kind, Memory, Name, Text, VlanId};
 use lab_state::LabState;
 use plant::{DeviceOp, Plant};
 use plant_mem::MemLab;
-use row_words::{Untold, at_bar, push_number};
+use row_words::{RowFault, at_bar, push_number};
 use script_text::AuditLine;
 use std::alloc::Global;
 
@@ -65,16 +65,21 @@ fn push_audit(
     alloc: Global,
     state: &LabState,
     plant: &mut MemLab,
-) -> Result<(), Untold> {
+) -> Result<(), RowFault> {
     match audit(alloc, state, plant) {
         Ok(report) => Ok(push_lines(out, report.as_slice())?),
-        Err(AuditFault::Unread(_)) => Err(Untold::Word(Kind::Missing)),
-        Err(AuditFault::Memory) => Err(Untold::Memory),
+        Err(AuditFault::Unread(_)) => Err(RowFault::Word(Kind::Missing)),
+        Err(AuditFault::Memory) => Err(RowFault::Memory),
     }
 }
 
-/// In what devices differ, to which the commands behind a bar were sent, from the lab of the records before it.
-pub fn tell(out: &mut Text, alloc: Global, texts: &Texts, words: &[&[u8]]) -> Result<(), Untold> {
+/// In what devices differ, to which the commands after a bar were sent, from the lab of the records before it.
+pub fn add_output(
+    out: &mut Text,
+    alloc: Global,
+    texts: &Texts,
+    words: &[&[u8]],
+) -> Result<(), RowFault> {
     let halves = at_bar(words);
     let state = state_of(alloc, texts, halves.before)?;
     let ops = ops_of(alloc, texts, halves.behind)?;

@@ -6,12 +6,12 @@ use crate::texts::Texts;
 use lab_base::{Items, Memory, SwitchId, Text, TrunkId};
 use line_text::{field_at, name_at};
 use phys_lab::{Lab, LabBuilder, LabFault, MAX_SWITCHES, MAX_TRUNKS, Trunk};
-use row_words::{Untold, number_at, parts_of, push_number};
+use row_words::{RowFault, number_at, parts_of, push_number};
 use std::alloc::Global;
 use virt_topo::{VirtNode, Wiring, WiringFault};
 
 /// The trunk that parts say: its name, and the switch and the port of both ends.
-fn trunk_of(parts: &[&[u8]]) -> Result<Trunk, Untold> {
+fn trunk_of(parts: &[&[u8]]) -> Result<Trunk, RowFault> {
     Ok(Trunk {
         link: name_at(parts, 0)?,
         first: (SwitchId(number_at(parts, 1)?), number_at(parts, 2)?),
@@ -21,7 +21,7 @@ fn trunk_of(parts: &[&[u8]]) -> Result<Trunk, Untold> {
 }
 
 /// Adds a switch, which is a name, or a trunk.
-fn add(builder: &mut LabBuilder, parts: &[&[u8]]) -> Result<Result<(), LabFault>, Untold> {
+fn add(builder: &mut LabBuilder, parts: &[&[u8]]) -> Result<Result<(), LabFault>, RowFault> {
     if parts.len() == 1 {
         return Ok(builder.add_switch(name_at(parts, 0)?));
     }
@@ -44,7 +44,7 @@ fn push_added(
     alloc: Global,
     builder: &mut LabBuilder,
     words: &[&[u8]],
-) -> Result<(), Untold> {
+) -> Result<(), RowFault> {
     for word in words {
         let parts = parts_of(alloc, word)?;
         out.push_bytes(word_of(add(builder, &parts)?))?;
@@ -58,9 +58,9 @@ fn push_counts(out: &mut Text, lab: &Lab) -> Result<(), Memory> {
 }
 
 /// Adds the outcome of each word, and the numbers of trunks and switches that the lab then has.
-pub fn tell(out: &mut Text, alloc: Global, words: &[&[u8]]) -> Result<(), Untold> {
+pub fn add_output(out: &mut Text, alloc: Global, words: &[&[u8]]) -> Result<(), RowFault> {
     let Ok(mut builder) = LabBuilder::new(alloc, 2, 4_094) else {
-        return Err(Untold::Memory);
+        return Err(RowFault::Memory);
     };
     let added = push_added(out, alloc, &mut builder, words);
     let lab = builder.finish()?;
@@ -94,7 +94,7 @@ pub fn tell_sides(
     alloc: Global,
     texts: &Texts,
     words: &[&[u8]],
-) -> Result<(), Untold> {
+) -> Result<(), RowFault> {
     let lab = lab_of(alloc, texts, field_at(words, 0))?;
     let told = push_sides(out, &lab);
     drop(lab);
@@ -132,7 +132,7 @@ fn push_with(
 }
 
 /// The nodes of a wiring.
-fn nodes_of(alloc: Global, texts: &Texts, name: &[u8]) -> Result<Items<VirtNode>, Untold> {
+fn nodes_of(alloc: Global, texts: &Texts, name: &[u8]) -> Result<Items<VirtNode>, RowFault> {
     let Wiring { nodes, .. } = wiring_of(alloc, texts, name)?;
     Ok(nodes)
 }
@@ -144,7 +144,7 @@ fn push_both(
     texts: &Texts,
     wiring: &Wiring,
     more: &[u8],
-) -> Result<(), Untold> {
+) -> Result<(), RowFault> {
     push_checked(out, wiring)?;
     Ok(push_with(out, alloc, wiring, nodes_of(alloc, texts, more)?)?)
 }
@@ -155,7 +155,7 @@ pub fn tell_check(
     alloc: Global,
     texts: &Texts,
     words: &[&[u8]],
-) -> Result<(), Untold> {
+) -> Result<(), RowFault> {
     let wiring = wiring_of(alloc, texts, field_at(words, 0))?;
     let told = push_both(out, alloc, texts, &wiring, field_at(words, 1));
     drop(wiring);

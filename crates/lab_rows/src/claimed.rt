@@ -9,7 +9,7 @@ use claims::{Claim, Claims, Hold, TakeFault};
 use lab_base::{IfaceId, Items, Memory, Name, NodeId, Tags, Text, VlanId, name_in};
 use line_text::field_at;
 use phys_lab::Lab;
-use row_words::{Untold, number, push_answer, push_number};
+use row_words::{RowFault, number, push_answer, push_number};
 use std::alloc::Global;
 
 /// The claim of a mapping that has one segment between both nodes, with VLAN id 100.
@@ -122,7 +122,12 @@ fn push_claims(out: &mut Text, alloc: Global, lab: &Lab, exp: Name) -> Result<()
 }
 
 /// The counts of a free lab, and those with a claim.
-pub fn tell(out: &mut Text, alloc: Global, texts: &Texts, words: &[&[u8]]) -> Result<(), Untold> {
+pub fn add_output(
+    out: &mut Text,
+    alloc: Global,
+    texts: &Texts,
+    words: &[&[u8]],
+) -> Result<(), RowFault> {
     let exp = name_in(b"e")?;
     let lab = lab_of(alloc, texts, field_at(words, 0))?;
     let told = push_claims(out, alloc, &lab, exp);
@@ -130,8 +135,8 @@ pub fn tell(out: &mut Text, alloc: Global, texts: &Texts, words: &[&[u8]]) -> Re
     Ok(told?)
 }
 
-/// The VLAN ids of words behind the first one.
-fn tags_of(alloc: Global, words: &[&[u8]]) -> Result<Tags, Untold> {
+/// The VLAN ids of words after the first one.
+fn tags_of(alloc: Global, words: &[&[u8]]) -> Result<Tags, RowFault> {
     let mut tags = Items::new(alloc);
     for word in words.iter().skip(1) {
         tags.push(VlanId(number(word)?))?;
@@ -150,7 +155,7 @@ pub fn tell_free(
     alloc: Global,
     texts: &Texts,
     words: &[&[u8]],
-) -> Result<(), Untold> {
+) -> Result<(), RowFault> {
     let exp = name_in(b"e")?;
     let tags = tags_of(alloc, words)?;
     let lab = lab_of(alloc, texts, field_at(words, 0))?;

@@ -3,9 +3,9 @@ use crate::reading::lab_of;
 use crate::steps::row_of;
 use crate::texts::Texts;
 use lab_base::{Items, Kind, Text, fields_in};
-use line_text::{field_at, fields_behind, name_at};
+use line_text::{field_at, fields_after, name_at};
 use plain_model::{Owner, PipeEnds, Wanted, is_isolated};
-use row_words::{Untold, parts_of, push_answer};
+use row_words::{RowFault, parts_of, push_answer};
 use std::alloc::Global;
 use swap_plan::Port;
 
@@ -18,7 +18,7 @@ struct World {
 }
 
 /// The row that parts say: an experiment, `new` or `old` for its mapping, the link, and the row.
-fn wanted_of(parts: &[&[u8]]) -> Result<Wanted, Untold> {
+fn wanted_of(parts: &[&[u8]]) -> Result<Wanted, RowFault> {
     let owner = Owner {
         exp: name_at(parts, 0)?,
         new: field_at(parts, 1).first() == Some(&b'n'),
@@ -28,8 +28,8 @@ fn wanted_of(parts: &[&[u8]]) -> Result<Wanted, Untold> {
     Ok(Wanted { row, owner })
 }
 
-/// The pipe that parts say behind a word: a node, and two of its interfaces.
-fn pipe_of(parts: &[&[u8]]) -> Result<PipeEnds, Untold> {
+/// The pipe that parts say after a word: a node, and two of its interfaces.
+fn pipe_of(parts: &[&[u8]]) -> Result<PipeEnds, RowFault> {
     Ok(PipeEnds {
         node: name_at(parts, 1)?,
         from: name_at(parts, 2)?,
@@ -38,18 +38,18 @@ fn pipe_of(parts: &[&[u8]]) -> Result<PipeEnds, Untold> {
 }
 
 /// Adds what a word says: a row has three parts, a pipe four, and a row that a mapping wants six.
-fn add(alloc: Global, world: &mut World, word: &[u8]) -> Result<(), Untold> {
+fn add(alloc: Global, world: &mut World, word: &[u8]) -> Result<(), RowFault> {
     let parts = parts_of(alloc, word)?;
     match parts.len() {
         3 => world.rows.push(row_of(&parts)?)?,
         4 => world.pipes.push(pipe_of(&parts)?)?,
         6 => world.wanted.push(wanted_of(&parts)?)?,
-        _ => return Err(Untold::Word(Kind::Fields)),
+        _ => return Err(RowFault::Word(Kind::Fields)),
     }
     Ok(())
 }
 
-fn add_all(alloc: Global, world: &mut World, words: &[&[u8]]) -> Result<(), Untold> {
+fn add_all(alloc: Global, world: &mut World, words: &[&[u8]]) -> Result<(), RowFault> {
     for word in words {
         add(alloc, world, word)?;
     }
@@ -57,7 +57,7 @@ fn add_all(alloc: Global, world: &mut World, words: &[&[u8]]) -> Result<(), Unto
 }
 
 /// The world that the words of a text say, and further ones.
-fn world_of(alloc: Global, first: &[u8], words: &[&[u8]]) -> Result<World, Untold> {
+fn world_of(alloc: Global, first: &[u8], words: &[&[u8]]) -> Result<World, RowFault> {
     let mut world = World {
         wanted: Items::new(alloc),
         rows: Items::new(alloc),
@@ -70,7 +70,7 @@ fn world_of(alloc: Global, first: &[u8], words: &[&[u8]]) -> Result<World, Untol
 }
 
 /// Whether a world of the lab of that name is isolated.
-fn is_one(alloc: Global, texts: &Texts, lab: &[u8], world: &World) -> Result<bool, Untold> {
+fn is_one(alloc: Global, texts: &Texts, lab: &[u8], world: &World) -> Result<bool, RowFault> {
     let lab = lab_of(alloc, texts, lab)?;
     let isolated = is_isolated(
         &lab,
@@ -83,11 +83,16 @@ fn is_one(alloc: Global, texts: &Texts, lab: &[u8], world: &World) -> Result<boo
 }
 
 /// Whether a world is isolated, which a text says and further words.
-pub fn tell(out: &mut Text, alloc: Global, texts: &Texts, words: &[&[u8]]) -> Result<(), Untold> {
+pub fn add_output(
+    out: &mut Text,
+    alloc: Global,
+    texts: &Texts,
+    words: &[&[u8]],
+) -> Result<(), RowFault> {
     if words.len() < 2 {
-        return Err(Untold::Word(Kind::Fields));
+        return Err(RowFault::Word(Kind::Fields));
     }
-    let world = world_of(alloc, texts.of(words[1])?, fields_behind(words, 2))?;
+    let world = world_of(alloc, texts.of(words[1])?, fields_after(words, 2))?;
     let isolated = is_one(alloc, texts, words[0], &world);
     drop(world);
     Ok(push_answer(out, isolated?)?)

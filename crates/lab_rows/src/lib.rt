@@ -8,7 +8,7 @@
 //! check TOP TOP               the check of a wiring, and of one with the nodes of another too
 //! isolated LAB TEXT WORD..    whether a world is isolated: rows `s1:1:100`, pipes `pipe:a:e0:e1`, and what is wanted `e:new:l:s1:1:100`
 //! world LAB EXP.. | COMMAND.. whether the experiments' claims hold, and the world is isolated and cabled, where the mappings suit the lab;
-//!                             a command behind a `!` was not applied
+//!                             a command after a `!` was not applied
 //! follow RECORD..             whether each record can follow, and what it leaves of the first trunk; and how many experiments there are then
 //! replay RECORD RECORD RECORD how many experiments three records give, or the number of the first that can't follow
 //! pack RECORD.. | RECORD..    whether the lab of some records is packed into others
@@ -45,7 +45,7 @@ mod waits;
 mod worlds;
 
 use lab_base::{Kind, Text, fields_in};
-use row_words::Untold;
+use row_words::RowFault;
 use std::alloc::Global;
 pub use texts::Texts;
 use texts::keep_line;
@@ -57,13 +57,13 @@ fn tell_of_worlds(
     texts: &Texts,
     kind: &str,
     words: &[&[u8]],
-) -> Result<bool, Untold> {
+) -> Result<bool, RowFault> {
     match kind {
-        "build" => builds::tell(out, alloc, words)?,
+        "build" => builds::add_output(out, alloc, words)?,
         "sides" => builds::tell_sides(out, alloc, texts, words)?,
         "check" => builds::tell_check(out, alloc, texts, words)?,
-        "isolated" => isolation::tell(out, alloc, texts, words)?,
-        "world" => worlds::tell(out, alloc, texts, words)?,
+        "isolated" => isolation::add_output(out, alloc, texts, words)?,
+        "world" => worlds::add_output(out, alloc, texts, words)?,
         _ => return Ok(false),
     }
     Ok(true)
@@ -76,12 +76,12 @@ fn tell_of_records(
     texts: &Texts,
     kind: &str,
     words: &[&[u8]],
-) -> Result<bool, Untold> {
+) -> Result<bool, RowFault> {
     match kind {
-        "follow" => records::tell(out, alloc, texts, words)?,
+        "follow" => records::add_output(out, alloc, texts, words)?,
         "replay" => records::tell_three(out, alloc, texts, words)?,
         "pack" => records::tell_packed(out, alloc, texts, words)?,
-        "audit" => audits::tell(out, alloc, texts, words)?,
+        "audit" => audits::add_output(out, alloc, texts, words)?,
         _ => return Ok(false),
     }
     Ok(true)
@@ -94,13 +94,13 @@ fn tell_of_promises(
     texts: &Texts,
     kind: &str,
     words: &[&[u8]],
-) -> Result<bool, Untold> {
+) -> Result<bool, RowFault> {
     match kind {
         "fit" => promises::tell_fit(out, alloc, texts, words)?,
         "moments" => promises::tell_moments(out, alloc, texts, words)?,
         "needs" => promises::tell_needs(out, alloc, texts, words)?,
         "left" => promises::tell_left(out, alloc, words)?,
-        "wait" => waits::tell(out, alloc, texts, words)?,
+        "wait" => waits::add_output(out, alloc, texts, words)?,
         _ => return Ok(false),
     }
     Ok(true)
@@ -113,25 +113,25 @@ fn tell_of_mappings(
     texts: &Texts,
     kind: &str,
     words: &[&[u8]],
-) -> Result<bool, Untold> {
+) -> Result<bool, RowFault> {
     match kind {
-        "plan" => plans::tell(out, alloc, texts, words)?,
-        "claims" => claimed::tell(out, alloc, texts, words)?,
+        "plan" => plans::add_output(out, alloc, texts, words)?,
+        "claims" => claimed::add_output(out, alloc, texts, words)?,
         "free" => claimed::tell_free(out, alloc, texts, words)?,
-        "rule" => rules::tell(out, alloc, texts, words)?,
+        "rule" => rules::add_output(out, alloc, texts, words)?,
         _ => return Ok(false),
     }
     Ok(true)
 }
 
 /// Adds the output of a row; true where it is one.
-fn tell_row(
+fn add_row_output(
     out: &mut Text,
     alloc: Global,
     texts: &Texts,
     kind: &str,
     letters: &[u8],
-) -> Result<bool, Untold> {
+) -> Result<bool, RowFault> {
     if kind == "batch" {
         promises::tell_batch(out, alloc, letters)?;
         return Ok(true);
@@ -146,14 +146,14 @@ fn tell_row(
 }
 
 /// The output of a line; None of one that keeps a text.
-pub fn told(alloc: Global, texts: &mut Texts, line: &str) -> Result<Option<Text>, Untold> {
+pub fn told(alloc: Global, texts: &mut Texts, line: &str) -> Result<Option<Text>, RowFault> {
     if keep_line(alloc, texts, line)? {
         return Ok(None);
     }
     let (kind, letters) = line.split_once(' ').unwrap_or((line, ""));
     let mut out = Text::new(alloc);
-    if !tell_row(&mut out, alloc, texts, kind, letters.as_bytes())? {
-        return Err(Untold::Word(Kind::Unknown));
+    if !add_row_output(&mut out, alloc, texts, kind, letters.as_bytes())? {
+        return Err(RowFault::Word(Kind::Unknown));
     }
     Ok(Some(out))
 }

@@ -8,7 +8,7 @@ use lab_base::{Items, Kind, Memory, Name, Tags, Text, VlanId};
 use line_text::{field_at, push_field};
 use phys_lab::Lab;
 use plant::DeviceOp;
-use row_words::{Untold, number_at, push_answer, push_number};
+use row_words::{RowFault, number_at, push_answer, push_number};
 use std::alloc::Global;
 use swap_plan::{Commands, Ops, plan_change, plan_in, plan_out};
 use virt_topo::Mapped;
@@ -26,14 +26,14 @@ fn mapped(
     texts: &Texts,
     words: &[&[u8]],
     tag: u16,
-) -> Result<Mapped, Untold>
+) -> Result<Mapped, RowFault>
     ensures { IfOk result (λ mapped. IsFit lab.now mapped) }
 {
     let tags = one_tag(alloc, tag)?;
     let wiring = wiring_of(alloc, texts, field_at(words, 1))?;
     if tags.len() != wiring.segments.len() {
         drop(wiring);
-        return Err(Untold::Word(Kind::Many));
+        return Err(RowFault::Word(Kind::Many));
     }
     match mapping_of(alloc, texts, field_at(words, 2), lab, &wiring) {
         Ok(mapping) => Ok(Mapped {
@@ -91,7 +91,7 @@ fn push_ops(out: &mut Text, ops: &[DeviceOp]) -> Result<(), Memory> {
     Ok(())
 }
 
-/// Adds commands, those of each list behind its name, a line each.
+/// Adds commands, those of each list after its name, a line each.
 fn push_commands(out: &mut Text, commands: &Commands) -> Result<(), Memory> {
     out.push_bytes(b"clear\n")?;
     push_ops(out, commands.clear.as_slice())?;
@@ -115,13 +115,13 @@ fn push_plan(out: &mut Text, ops: &Ops) -> Result<(), Memory> {
     push_answer(out, ops.inside)
 }
 
-fn ops_in(alloc: Global, lab: &Lab, new: &Mapped) -> Result<Ops, Untold>
+fn ops_in(alloc: Global, lab: &Lab, new: &Mapped) -> Result<Ops, RowFault>
     requires { IsFit lab.now new.now }
 {
     Ok(plan_in(alloc, lab, &new.wiring, &new.mapping, &new.tags)?)
 }
 
-fn ops_out(alloc: Global, lab: &Lab, old: &Mapped) -> Result<Ops, Untold>
+fn ops_out(alloc: Global, lab: &Lab, old: &Mapped) -> Result<Ops, RowFault>
     requires { IsFit lab.now old.now }
 {
     Ok(plan_out(alloc, lab, &old.wiring, &old.mapping, &old.tags)?)
@@ -134,7 +134,7 @@ fn ops_between(
     texts: &Texts,
     words: &[&[u8]],
     new: &Mapped,
-) -> Result<Ops, Untold>
+) -> Result<Ops, RowFault>
     requires { IsFit lab.now new.now }
 {
     let old = mapped(alloc, lab, texts, words, number_at(words, 3)?)?;
@@ -144,7 +144,7 @@ fn ops_between(
 }
 
 /// The plan of a swap: in where there is no old VLAN id, out where there is no new one, or else a change.
-fn ops_of(alloc: Global, lab: &Lab, texts: &Texts, words: &[&[u8]]) -> Result<Ops, Untold> {
+fn ops_of(alloc: Global, lab: &Lab, texts: &Texts, words: &[&[u8]]) -> Result<Ops, RowFault> {
     let (from, to) = (number_at(words, 3)?, number_at(words, 4)?);
     let one = mapped(alloc, lab, texts, words, if to == 0 { from } else { to })?;
     let ops = if from == 0 {
@@ -159,7 +159,12 @@ fn ops_of(alloc: Global, lab: &Lab, texts: &Texts, words: &[&[u8]]) -> Result<Op
 }
 
 /// The plan of a swap. The words are the texts of the lab, the wiring and the mapping, and its VLAN id before and then, 0 for none.
-pub fn tell(out: &mut Text, alloc: Global, texts: &Texts, words: &[&[u8]]) -> Result<(), Untold> {
+pub fn add_output(
+    out: &mut Text,
+    alloc: Global,
+    texts: &Texts,
+    words: &[&[u8]],
+) -> Result<(), RowFault> {
     let lab = lab_of(alloc, texts, field_at(words, 0))?;
     let ops = ops_of(alloc, &lab, texts, words);
     drop(lab);

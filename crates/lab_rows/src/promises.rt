@@ -5,11 +5,11 @@ use lab_ahead::{Batch, Fit, Left, Need, fits, left_at, moments, needs_at, read_b
 use lab_base::{Items, Kind, Memory, Name, NodeId, Text, name_in};
 use line_text::{field_at, push_field, push_numbered};
 use phys_lab::Lab;
-use row_words::{Untold, number, number_at, pair_of, push_number, push_numbers, text_of};
+use row_words::{RowFault, number, number_at, pair_of, push_number, push_numbers, text_of};
 use std::alloc::Global;
 
 /// The type of a word, and how many nodes of it are needed.
-fn need_of(word: &[u8]) -> Result<Need, Untold> {
+fn need_of(word: &[u8]) -> Result<Need, RowFault> {
     let pair = pair_of(word)?;
     Ok(Need {
         kind: name_in(pair.before)?,
@@ -18,9 +18,9 @@ fn need_of(word: &[u8]) -> Result<Need, Untold> {
 }
 
 /// Whether two needs fit both nodes of a lab.
-fn fit(alloc: Global, lab: &Lab, needs: &[Need; 2]) -> Result<Fit, Untold> {
+fn fit(alloc: Global, lab: &Lab, needs: &[Need; 2]) -> Result<Fit, RowFault> {
     if lab.nodes().len() != 2 {
-        return Err(Untold::Word(Kind::Many));
+        return Err(RowFault::Word(Kind::Many));
     }
     let mut left = Items::new(alloc);
     left.push(NodeId(0))?;
@@ -61,7 +61,7 @@ pub fn tell_fit(
     alloc: Global,
     texts: &Texts,
     words: &[&[u8]],
-) -> Result<(), Untold> {
+) -> Result<(), RowFault> {
     let needs = [need_of(field_at(words, 1))?, need_of(field_at(words, 2))?];
     let lab = lab_of(alloc, texts, field_at(words, 0))?;
     let found = fit(alloc, &lab, &needs);
@@ -70,15 +70,15 @@ pub fn tell_fit(
 }
 
 /// The batch of a text.
-pub(crate) fn batch_of(alloc: Global, text: &[u8]) -> Result<Batch, Untold> {
+pub(crate) fn batch_of(alloc: Global, text: &[u8]) -> Result<Batch, RowFault> {
     if text.len() > MAX_TEXT {
-        return Err(Untold::Memory);
+        return Err(RowFault::Memory);
     }
     Ok(read_batch(alloc, text)?)
 }
 
 /// How many promises and runs a batch has.
-pub fn tell_batch(out: &mut Text, alloc: Global, letters: &[u8]) -> Result<(), Untold> {
+pub fn tell_batch(out: &mut Text, alloc: Global, letters: &[u8]) -> Result<(), RowFault> {
     let text = text_of(alloc, letters)?;
     let batch = batch_of(alloc, text.bytes())?;
     let (promises, runs) = (batch.promises.len(), batch.runs.len());
@@ -93,7 +93,7 @@ pub fn tell_moments(
     alloc: Global,
     texts: &Texts,
     words: &[&[u8]],
-) -> Result<(), Untold> {
+) -> Result<(), RowFault> {
     let now = u64::from(number_at(words, 1)?);
     let length = u64::from(number_at(words, 2)?);
     let batch = batch_of(alloc, texts.of(field_at(words, 0))?)?;
@@ -115,7 +115,7 @@ pub fn tell_needs(
     alloc: Global,
     texts: &Texts,
     words: &[&[u8]],
-) -> Result<(), Untold> {
+) -> Result<(), RowFault> {
     let at = u64::from(number_at(words, 1)?);
     let batch = batch_of(alloc, texts.of(field_at(words, 0))?)?;
     let needs = needs_at(alloc, batch.promises.as_slice(), at);
@@ -124,7 +124,7 @@ pub fn tell_needs(
 }
 
 /// The node of a word, and the moment from which it is left.
-fn left_of(word: &[u8]) -> Result<Left, Untold> {
+fn left_of(word: &[u8]) -> Result<Left, RowFault> {
     let pair = pair_of(word)?;
     Ok(Left {
         node: NodeId(number(pair.before)?),
@@ -132,8 +132,8 @@ fn left_of(word: &[u8]) -> Result<Left, Untold> {
     })
 }
 
-/// The nodes of words behind the first one.
-fn lefts_of(alloc: Global, words: &[&[u8]]) -> Result<Items<Left>, Untold> {
+/// The nodes of words after the first one.
+fn lefts_of(alloc: Global, words: &[&[u8]]) -> Result<Items<Left>, RowFault> {
     let mut left = Items::new(alloc);
     for word in words.iter().skip(1) {
         left.push(left_of(word)?)?;
@@ -142,7 +142,7 @@ fn lefts_of(alloc: Global, words: &[&[u8]]) -> Result<Items<Left>, Untold> {
 }
 
 /// The nodes that are left at a moment.
-pub fn tell_left(out: &mut Text, alloc: Global, words: &[&[u8]]) -> Result<(), Untold> {
+pub fn tell_left(out: &mut Text, alloc: Global, words: &[&[u8]]) -> Result<(), RowFault> {
     let at = u64::from(number_at(words, 0)?);
     let left = lefts_of(alloc, words)?;
     for node in left_at(alloc, left.as_slice(), at)?.as_slice() {

@@ -6,7 +6,7 @@ ghost use Rattle.lab_model.specs.Shapes.{IsShaped};
 use crate::texts::Texts;
 use phys_lab::Lab;
 use ptop_text::read_ptop;
-use row_words::Untold;
+use row_words::RowFault;
 use solution_text::read_solution;
 use std::alloc::Global;
 use top_text::read_top;
@@ -16,21 +16,21 @@ use virt_topo::{Mapping, Wiring};
 pub const MAX_TEXT: usize = 100_000;
 
 /// The lab of the text of a name.
-pub fn lab_of(alloc: Global, texts: &Texts, name: &[u8]) -> Result<Lab, Untold> {
+pub fn lab_of(alloc: Global, texts: &Texts, name: &[u8]) -> Result<Lab, RowFault> {
     let ptop = texts.of(name)?;
     if ptop.len() > MAX_TEXT {
-        return Err(Untold::Memory);
+        return Err(RowFault::Memory);
     }
     Ok(read_ptop(alloc, ptop)?)
 }
 
 /// The wiring of the text of a name.
-pub fn wiring_of(alloc: Global, texts: &Texts, name: &[u8]) -> Result<Wiring, Untold>
+pub fn wiring_of(alloc: Global, texts: &Texts, name: &[u8]) -> Result<Wiring, RowFault>
     ensures { IfOk result (λ wiring. IsSound wiring) }
 {
     let top = texts.of(name)?;
     if top.len() > MAX_TEXT {
-        return Err(Untold::Memory);
+        return Err(RowFault::Memory);
     }
     Ok(read_top(alloc, top)?)
 }
@@ -42,12 +42,12 @@ pub fn mapping_of(
     name: &[u8],
     lab: &Lab,
     wiring: &Wiring,
-) -> Result<Mapping, Untold>
+) -> Result<Mapping, RowFault>
     ensures { IfOk result (λ mapping. IsShaped lab.now wiring.now mapping) }
 {
     let solution = texts.of(name)?;
     if solution.len() > MAX_TEXT {
-        return Err(Untold::Memory);
+        return Err(RowFault::Memory);
     }
     Ok(read_solution(alloc, solution, lab, wiring)?)
 }

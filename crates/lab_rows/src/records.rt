@@ -7,21 +7,21 @@ use journal_rec::{Found, Packed, Record, decode};
 use lab_base::{Kind, Memory, Text, TrunkId};
 use lab_state::{LabState, PrepareFault, ReplayFault};
 use line_text::field_at;
-use row_words::{Untold, at_bar, push_answer, push_number};
+use row_words::{RowFault, at_bar, push_answer, push_number};
 use std::alloc::Global;
 
 /// The record that its payload is read as.
-fn record_of(alloc: Global, payload: &[u8]) -> Result<Record, Untold>
+fn record_of(alloc: Global, payload: &[u8]) -> Result<Record, RowFault>
     ensures { IfOk result IsRecord }
 {
     match decode(alloc, payload) {
         Ok(record) => Ok(record),
-        Err(fault) => Err(Untold::from(fault)),
+        Err(fault) => Err(RowFault::from(fault)),
     }
 }
 
 /// Enters a record; tells whether it can follow.
-fn follows(state: &mut LabState, entry: &Record) -> Result<bool, Untold>
+fn follows(state: &mut LabState, entry: &Record) -> Result<bool, RowFault>
     requires { IsRecord entry.now }
 {
     match state.prepare(entry) {
@@ -30,12 +30,17 @@ fn follows(state: &mut LabState, entry: &Record) -> Result<bool, Untold>
             Ok(true)
         }
         Err(PrepareFault::Bad) => Ok(false),
-        Err(PrepareFault::Memory) => Err(Untold::Memory),
+        Err(PrepareFault::Memory) => Err(RowFault::Memory),
     }
 }
 
 /// Enters the record of a text; tells whether it can follow.
-fn enters(alloc: Global, texts: &Texts, state: &mut LabState, name: &[u8]) -> Result<bool, Untold> {
+fn enters(
+    alloc: Global,
+    texts: &Texts,
+    state: &mut LabState,
+    name: &[u8],
+) -> Result<bool, RowFault> {
     let entry = record_of(alloc, texts.of(name)?)?;
     let follows = follows(state, &entry);
     drop(entry);
@@ -60,7 +65,7 @@ fn push_all(
     texts: &Texts,
     state: &mut LabState,
     names: &[&[u8]],
-) -> Result<(), Untold> {
+) -> Result<(), RowFault> {
     for name in names {
         out.push_bytes(name)?;
         push_answer(out, enters(alloc, texts, state, name)?)?;
@@ -71,7 +76,12 @@ fn push_all(
 }
 
 /// Whether records can follow one another.
-pub fn tell(out: &mut Text, alloc: Global, texts: &Texts, words: &[&[u8]]) -> Result<(), Untold> {
+pub fn add_output(
+    out: &mut Text,
+    alloc: Global,
+    texts: &Texts,
+    words: &[&[u8]],
+) -> Result<(), RowFault> {
     let mut state = LabState::new(alloc);
     let told = push_all(out, alloc, texts, &mut state, words);
     drop(state);
@@ -116,12 +126,12 @@ fn replayed(
 }
 
 /// The outcome of replaying a record and two payloads.
-fn replayed_behind(
+fn replayed_after(
     alloc: Global,
     first: Record,
     second: &[u8],
     third: &[u8],
-) -> Result<Result<usize, ReplayFault>, Untold>
+) -> Result<Result<usize, ReplayFault>, RowFault>
     requires { IsRecord first }
 {
     let second = match record_of(alloc, second) {
@@ -158,10 +168,10 @@ pub fn tell_three(
     alloc: Global,
     texts: &Texts,
     words: &[&[u8]],
-) -> Result<(), Untold> {
+) -> Result<(), RowFault> {
     let (second, third) = (texts.of(field_at(words, 1))?, texts.of(field_at(words, 2))?);
     let first = record_of(alloc, texts.of(field_at(words, 0))?)?;
-    Ok(push_replayed(out, replayed_behind(alloc, first, second, third)?)?)
+    Ok(push_replayed(out, replayed_after(alloc, first, second, third)?)?)
 }
 
 /// Adds a payload behind its open gate.
@@ -173,7 +183,7 @@ fn push_gate(bytes: &mut Text, payload: &[u8]) -> Result<(), Memory> {
 }
 
 /// The records of texts, each behind its open gate, and a closed gate after the last.
-fn gates_of(alloc: Global, texts: &Texts, names: &[&[u8]]) -> Result<Text, Untold> {
+fn gates_of(alloc: Global, texts: &Texts, names: &[&[u8]]) -> Result<Text, RowFault> {
     let mut bytes = Text::new(alloc);
     for name in names {
         push_gate(&mut bytes, texts.of(name)?)?;
@@ -188,17 +198,17 @@ fn enter_all(
     texts: &Texts,
     state: &mut LabState,
     names: &[&[u8]],
-) -> Result<(), Untold> {
+) -> Result<(), RowFault> {
     for name in names {
         if !enters(alloc, texts, state, name)? {
-            return Err(Untold::Word(Kind::Missing));
+            return Err(RowFault::Word(Kind::Missing));
         }
     }
     Ok(())
 }
 
 /// The lab that the records of texts give.
-pub fn state_of(alloc: Global, texts: &Texts, names: &[&[u8]]) -> Result<LabState, Untold> {
+pub fn state_of(alloc: Global, texts: &Texts, names: &[&[u8]]) -> Result<LabState, RowFault> {
     let mut state = LabState::new(alloc);
     match enter_all(alloc, texts, &mut state, names) {
         Ok(()) => Ok(state),
@@ -210,7 +220,7 @@ pub fn state_of(alloc: Global, texts: &Texts, names: &[&[u8]]) -> Result<LabStat
 }
 
 /// The lab that the records of texts give, packed.
-fn packed_of(alloc: Global, texts: &Texts, names: &[&[u8]]) -> Result<Packed, Untold> {
+fn packed_of(alloc: Global, texts: &Texts, names: &[&[u8]]) -> Result<Packed, RowFault> {
     let mut state = LabState::new(alloc);
     let entered = enter_all(alloc, texts, &mut state, names);
     let packed = state.pack();
@@ -219,13 +229,13 @@ fn packed_of(alloc: Global, texts: &Texts, names: &[&[u8]]) -> Result<Packed, Un
     Ok(packed?)
 }
 
-/// Whether the lab that records before a bar give is packed into those behind it.
+/// Whether the lab that records before a bar give is packed into those after it.
 pub fn tell_packed(
     out: &mut Text,
     alloc: Global,
     texts: &Texts,
     words: &[&[u8]],
-) -> Result<(), Untold> {
+) -> Result<(), RowFault> {
     let halves = at_bar(words);
     let packed = packed_of(alloc, texts, halves.before)?;
     let wanted = gates_of(alloc, texts, halves.behind)?;

@@ -7,7 +7,7 @@ use feas::{CheckFault, check};
 use lab_base::{Items, Kind, Memory, Text};
 use line_text::field_at;
 use phys_lab::{Free, Lab};
-use row_words::{Untold, number_at};
+use row_words::{RowFault, number_at};
 use std::alloc::Global;
 use virt_topo::{Broken, Subject};
 
@@ -68,7 +68,7 @@ fn push_rule(
     words: &[&[u8]],
     lab: &Lab,
     free: &Free,
-) -> Result<(), Untold>
+) -> Result<(), RowFault>
     requires { IsFreeOf lab.now free.now }
 {
     let wiring = wiring_of(alloc, texts, field_at(words, 1))?;
@@ -92,12 +92,12 @@ fn push_rule_beside(
     texts: &Texts,
     words: &[&[u8]],
     lab: &Lab,
-) -> Result<(), Untold> {
+) -> Result<(), RowFault> {
     let (taken, left) = (number_at(words, 3)?, number_at(words, 4)?);
     let free = free_of(alloc, lab, taken, left)?;
     if free.nodes.len() != lab.nodes().len() || free.left.len() != lab.trunks().len() {
         drop(free);
-        return Err(Untold::Word(Kind::Many));
+        return Err(RowFault::Word(Kind::Many));
     }
     let told = push_rule(out, alloc, texts, words, lab, &free);
     drop(free);
@@ -107,7 +107,12 @@ fn push_rule_beside(
 /// The rule that a mapping breaks first, with its subject, or `kept`.
 /// The words are the texts of the lab, the wiring and the mapping. Two numbers follow: the first nodes that others have, and the thousand kbps that
 /// they leave of each trunk.
-pub fn tell(out: &mut Text, alloc: Global, texts: &Texts, words: &[&[u8]]) -> Result<(), Untold> {
+pub fn add_output(
+    out: &mut Text,
+    alloc: Global,
+    texts: &Texts,
+    words: &[&[u8]],
+) -> Result<(), RowFault> {
     let lab = lab_of(alloc, texts, field_at(words, 0))?;
     let told = push_rule_beside(out, alloc, texts, words, &lab);
     drop(lab);

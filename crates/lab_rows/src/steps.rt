@@ -4,13 +4,13 @@ use lab_base::{Boot, Items, Kind, Name, Rates, VlanId, fields_in, name_in};
 use line_text::name_at;
 use plain_model::Sent;
 use plant::{Answer, DeviceOp, Fault};
-use row_words::{Untold, number_at, pair_of, parts_of};
+use row_words::{RowFault, number_at, pair_of, parts_of};
 use std::alloc::Global;
 use std::str;
 use swap_plan::Port;
 
 /// A Join or a Leave.
-fn port_op(joins: bool, switch: Name, parts: &[&[u8]]) -> Result<DeviceOp, Untold> {
+fn port_op(joins: bool, switch: Name, parts: &[&[u8]]) -> Result<DeviceOp, RowFault> {
     let port = number_at(parts, 1)?;
     let vlan = VlanId(number_at(parts, 2)?);
     Ok(if joins {
@@ -21,7 +21,7 @@ fn port_op(joins: bool, switch: Name, parts: &[&[u8]]) -> Result<DeviceOp, Untol
 }
 
 /// A Shape of a pipe from `e0` to `e1`, by its number and its kbps there; 1,000 back.
-fn shape_op(node: Name, parts: &[&[u8]]) -> Result<DeviceOp, Untold> {
+fn shape_op(node: Name, parts: &[&[u8]]) -> Result<DeviceOp, RowFault> {
     let rates = Rates {
         kbps: 1_000,
         micros: 0,
@@ -40,8 +40,8 @@ fn shape_op(node: Name, parts: &[&[u8]]) -> Result<DeviceOp, Untold> {
     })
 }
 
-/// The command of a word and the parts behind it. A node that is `up`, or is `lost`, was polled.
-fn op_of(verb: &str, parts: &[&[u8]]) -> Result<DeviceOp, Untold> {
+/// The command of a word and the parts after it. A node that is `up`, or is `lost`, was polled.
+fn op_of(verb: &str, parts: &[&[u8]]) -> Result<DeviceOp, RowFault> {
     let node = name_at(parts, 0)?;
     match verb {
         "join" => port_op(true, node, parts),
@@ -54,7 +54,7 @@ fn op_of(verb: &str, parts: &[&[u8]]) -> Result<DeviceOp, Untold> {
         "boot" => Ok(DeviceOp::Boot { node }),
         "up" | "lost" => Ok(DeviceOp::Poll { node }),
         "wipe" => Ok(DeviceOp::Wipe { node }),
-        _ => Err(Untold::Word(Kind::Command)),
+        _ => Err(RowFault::Word(Kind::Command)),
     }
 }
 
@@ -68,7 +68,7 @@ fn answer_to(verb: &str) -> Result<Answer, Fault> {
 }
 
 /// A command that was sent, and perhaps applied.
-fn sent_of(alloc: Global, word: &[u8], applied: bool) -> Result<Sent, Untold> {
+fn sent_of(alloc: Global, word: &[u8], applied: bool) -> Result<Sent, RowFault> {
     let pair = pair_of(word)?;
     let verb = str::from_utf8(pair.before).unwrap_or("");
     let parts = parts_of(alloc, pair.behind)?;
@@ -81,8 +81,8 @@ fn sent_of(alloc: Global, word: &[u8], applied: bool) -> Result<Sent, Untold> {
     })
 }
 
-/// Adds the command of a word. One behind a `!` was not applied.
-fn add_step(alloc: Global, sent: &mut Items<Sent>, word: &[u8]) -> Result<(), Untold> {
+/// Adds the command of a word. One after a `!` was not applied.
+fn add_step(alloc: Global, sent: &mut Items<Sent>, word: &[u8]) -> Result<(), RowFault> {
     // the checker wants each type that a moved value holds to be named
     let _op: Option<DeviceOp> = None;
     let step = match word.split_first() {
@@ -93,7 +93,7 @@ fn add_step(alloc: Global, sent: &mut Items<Sent>, word: &[u8]) -> Result<(), Un
     Ok(())
 }
 
-fn add_steps(alloc: Global, sent: &mut Items<Sent>, words: &[&[u8]]) -> Result<(), Untold> {
+fn add_steps(alloc: Global, sent: &mut Items<Sent>, words: &[&[u8]]) -> Result<(), RowFault> {
     for word in words {
         add_step(alloc, sent, word)?;
     }
@@ -101,7 +101,7 @@ fn add_steps(alloc: Global, sent: &mut Items<Sent>, words: &[&[u8]]) -> Result<(
 }
 
 /// The commands of words, each a command or the name of a text of some.
-pub fn steps_of(alloc: Global, texts: &Texts, words: &[&[u8]]) -> Result<Items<Sent>, Untold> {
+pub fn steps_of(alloc: Global, texts: &Texts, words: &[&[u8]]) -> Result<Items<Sent>, RowFault> {
     let mut sent = Items::new(alloc);
     for word in words {
         match texts.get(word) {
@@ -113,7 +113,7 @@ pub fn steps_of(alloc: Global, texts: &Texts, words: &[&[u8]]) -> Result<Items<S
 }
 
 /// The commands of words, whether they are applied or not.
-pub fn ops_of(alloc: Global, texts: &Texts, words: &[&[u8]]) -> Result<Items<DeviceOp>, Untold> {
+pub fn ops_of(alloc: Global, texts: &Texts, words: &[&[u8]]) -> Result<Items<DeviceOp>, RowFault> {
     let sent = steps_of(alloc, texts, words)?;
     let mut ops = Items::new(alloc);
     for step in sent.as_slice() {
@@ -123,7 +123,7 @@ pub fn ops_of(alloc: Global, texts: &Texts, words: &[&[u8]]) -> Result<Items<Dev
 }
 
 /// The row that parts say: a switch, a port and a VLAN id.
-pub fn row_of(parts: &[&[u8]]) -> Result<Port, Untold> {
+pub fn row_of(parts: &[&[u8]]) -> Result<Port, RowFault> {
     Ok(Port {
         switch: name_at(parts, 0)?,
         port: number_at(parts, 1)?,

@@ -1,6 +1,6 @@
 //! The texts that rows name.
 use lab_base::{Items, Kind, Memory, Text, fields_in};
-use row_words::{Untold, text_of};
+use row_words::{RowFault, text_of};
 use std::alloc::Global;
 use std::str;
 
@@ -40,22 +40,22 @@ impl Texts {
     }
 
     /// The text of a name.
-    pub(crate) fn of(&self, name: &[u8]) -> Result<&[u8], Untold> {
+    pub(crate) fn of(&self, name: &[u8]) -> Result<&[u8], RowFault> {
         match self.get(name) {
             Some(text) => Ok(text),
-            None => Err(Untold::Word(Kind::Unknown)),
+            None => Err(RowFault::Word(Kind::Unknown)),
         }
     }
 }
 
 /// Adds the byte of two hexadecimal digits.
-fn push_digits(text: &mut Text, digits: &[u8]) -> Result<(), Untold> {
-    let digits = str::from_utf8(digits).map_err(|_broken| Untold::Word(Kind::Number))?;
+fn push_digits(text: &mut Text, digits: &[u8]) -> Result<(), RowFault> {
+    let digits = str::from_utf8(digits).map_err(|_broken| RowFault::Word(Kind::Number))?;
     Ok(text.push(u8::from_str_radix(digits, 16)?)?)
 }
 
 /// Adds what a word says: the text that it names, nothing where it is `-`, or else the bytes of its digits.
-fn push_word(text: &mut Text, texts: &Texts, word: &[u8]) -> Result<(), Untold> {
+fn push_word(text: &mut Text, texts: &Texts, word: &[u8]) -> Result<(), RowFault> {
     if let Some(named) = texts.get(word) {
         return Ok(text.push_bytes(named)?);
     }
@@ -67,8 +67,8 @@ fn push_word(text: &mut Text, texts: &Texts, word: &[u8]) -> Result<(), Untold> 
     Ok(())
 }
 
-/// The bytes that words say, one behind another.
-fn bytes_of(alloc: Global, texts: &Texts, words: &[&[u8]]) -> Result<Text, Untold> {
+/// The bytes that words say, one after another.
+fn bytes_of(alloc: Global, texts: &Texts, words: &[&[u8]]) -> Result<Text, RowFault> {
     let mut bytes = Text::new(alloc);
     for word in words {
         push_word(&mut bytes, texts, word)?;
@@ -77,7 +77,7 @@ fn bytes_of(alloc: Global, texts: &Texts, words: &[&[u8]]) -> Result<Text, Untol
 }
 
 /// Keeps the text of a line that names one, `text` with its letters, or `bytes` with its words; tells whether it is such a line.
-pub fn keep_line(alloc: Global, texts: &mut Texts, line: &str) -> Result<bool, Untold> {
+pub fn keep_line(alloc: Global, texts: &mut Texts, line: &str) -> Result<bool, RowFault> {
     let (kind, named) = line.split_once(' ').unwrap_or((line, ""));
     let (name, letters) = named.split_once(' ').unwrap_or((named, ""));
     let text = match kind {

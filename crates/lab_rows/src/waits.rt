@@ -6,7 +6,7 @@ use lab_ahead::{End, Promise, Span, Wait, first_wait, left_for};
 use lab_base::{Items, Kind, Memory, Name, NodeId, Text, name_in};
 use line_text::field_at;
 use phys_lab::Lab;
-use row_words::{Untold, number, number_at, pair_of, push_number};
+use row_words::{RowFault, number, number_at, pair_of, push_number};
 use std::alloc::Global;
 
 /// The most nodes of a lab, and the most promises of a batch.
@@ -30,32 +30,32 @@ fn unclaimed(alloc: Global, lab: &Lab) -> Result<Vec<Items<Name>>, Memory> {
     Ok(claimers)
 }
 
-fn add_place(queued: &mut Queued, word: &[u8]) -> Result<(), Untold> {
+fn add_place(queued: &mut Queued, word: &[u8]) -> Result<(), RowFault> {
     let pair = pair_of(word)?;
     let node = NodeId(number(pair.before)?);
     let kind = name_in(pair.behind)?;
     Ok(queued.places.push((node, kind))?)
 }
 
-fn add_end(queued: &mut Queued, word: &[u8]) -> Result<(), Untold> {
+fn add_end(queued: &mut Queued, word: &[u8]) -> Result<(), RowFault> {
     let pair = pair_of(word)?;
     let exp = name_in(pair.before)?;
     let at = u64::from(number(pair.behind)?);
     Ok(queued.ends.push(End { exp, at })?)
 }
 
-fn add_claim(queued: &mut Queued, word: &[u8]) -> Result<(), Untold> {
+fn add_claim(queued: &mut Queued, word: &[u8]) -> Result<(), RowFault> {
     let pair = pair_of(word)?;
     let node = number(pair.before)? as usize;
     let exp = name_in(pair.behind)?;
     if node >= queued.claimers.len() {
-        return Err(Untold::Word(Kind::Unknown));
+        return Err(RowFault::Word(Kind::Unknown));
     }
     Ok(queued.claimers[node].push(exp)?)
 }
 
 /// Adds what a word tells: `place:NODE:TYPE`, `end:EXPERIMENT:MOMENT` or `claim:NODE:EXPERIMENT`.
-fn add_word(queued: &mut Queued, word: &[u8]) -> Result<(), Untold> {
+fn add_word(queued: &mut Queued, word: &[u8]) -> Result<(), RowFault> {
     let pair = pair_of(word)?;
     if pair.before == b"place".as_slice() {
         add_place(queued, pair.behind)
@@ -64,11 +64,11 @@ fn add_word(queued: &mut Queued, word: &[u8]) -> Result<(), Untold> {
     } else if pair.before == b"claim".as_slice() {
         add_claim(queued, pair.behind)
     } else {
-        Err(Untold::Word(Kind::Word))
+        Err(RowFault::Word(Kind::Word))
     }
 }
 
-fn queued_of(alloc: Global, lab: &Lab, words: &[&[u8]]) -> Result<Queued, Untold> {
+fn queued_of(alloc: Global, lab: &Lab, words: &[&[u8]]) -> Result<Queued, RowFault> {
     let mut queued = Queued {
         claimers: unclaimed(alloc, lab)?,
         ends: Items::new(alloc),
@@ -88,10 +88,10 @@ fn wait_of(
     queued: &Queued,
     from: u16,
     length: u16,
-) -> Result<Option<Wait>, Untold> {
+) -> Result<Option<Wait>, RowFault> {
     let nodes = queued.claimers.len();
     if nodes != lab.nodes().len() || nodes > MAX_NODES || promises.len() > MAX_PROMISES {
-        return Err(Untold::Word(Kind::Many));
+        return Err(RowFault::Word(Kind::Many));
     }
     let span = Span {
         from: u64::from(from),
@@ -115,7 +115,12 @@ fn push_wait(out: &mut Text, found: &Option<Wait>) -> Result<(), Memory> {
 }
 
 /// Whether a run fits; or the first moment at which it doesn't, what is needed and what is left, and the types.
-pub fn tell(out: &mut Text, alloc: Global, texts: &Texts, words: &[&[u8]]) -> Result<(), Untold> {
+pub fn add_output(
+    out: &mut Text,
+    alloc: Global,
+    texts: &Texts,
+    words: &[&[u8]],
+) -> Result<(), RowFault> {
     let (from, length) = (number_at(words, 2)?, number_at(words, 3)?);
     let batch = batch_of(alloc, texts.of(field_at(words, 1))?)?;
     let lab = lab_of(alloc, texts, field_at(words, 0))?;

@@ -8,7 +8,7 @@ use lab_base::{
 use line_text::field_at;
 use phys_lab::Lab;
 use plain_model::{Sent, all_fit, is_cabled, is_holding, is_isolated_after};
-use row_words::{Untold, at_bar, number, pair_of, push_answer};
+use row_words::{RowFault, at_bar, number, pair_of, push_answer};
 use std::alloc::Global;
 use virt_topo::{Experiment, Mapped, Mapping, Phase, Wiring};
 
@@ -20,7 +20,7 @@ struct Placed {
 }
 
 /// Adds what a word says: an interface, a VLAN id, or the number of a node with the type that it is.
-fn add(placed: &mut Placed, word: &[u8]) -> Result<(), Untold> {
+fn add(placed: &mut Placed, word: &[u8]) -> Result<(), RowFault> {
     let pair = pair_of(word)?;
     if pair.before == b"plug".as_slice() {
         placed.mapping.plugs.push(IfaceId(number(pair.behind)?))?;
@@ -33,7 +33,7 @@ fn add(placed: &mut Placed, word: &[u8]) -> Result<(), Untold> {
     Ok(())
 }
 
-fn add_all(placed: &mut Placed, words: &[&[u8]]) -> Result<(), Untold> {
+fn add_all(placed: &mut Placed, words: &[&[u8]]) -> Result<(), RowFault> {
     for word in words {
         add(placed, word)?;
     }
@@ -41,7 +41,7 @@ fn add_all(placed: &mut Placed, words: &[&[u8]]) -> Result<(), Untold> {
 }
 
 /// How the plan of a text maps its wiring, whose name comes first.
-fn placed_of(alloc: Global, plan: &[u8]) -> Result<Placed, Untold> {
+fn placed_of(alloc: Global, plan: &[u8]) -> Result<Placed, RowFault> {
     let words = fields_in(alloc, plan)?;
     let mapping = Mapping {
         places: Items::new(alloc),
@@ -59,18 +59,18 @@ fn placed_of(alloc: Global, plan: &[u8]) -> Result<Placed, Untold> {
 }
 
 /// The wiring of a plan.
-fn wiring_in(alloc: Global, texts: &Texts, plan: &[u8]) -> Result<Wiring, Untold> {
+fn wiring_in(alloc: Global, texts: &Texts, plan: &[u8]) -> Result<Wiring, RowFault> {
     let words = fields_in(alloc, plan)?;
     wiring_of(alloc, texts, field_at(&words, 0))
 }
 
 /// The wiring of the plan of a name.
-fn wiring_named(alloc: Global, texts: &Texts, name: &[u8]) -> Result<Wiring, Untold> {
+fn wiring_named(alloc: Global, texts: &Texts, name: &[u8]) -> Result<Wiring, RowFault> {
     wiring_in(alloc, texts, texts.of(name)?)
 }
 
 /// The wiring and the mapping of a plan.
-fn mapped_of(alloc: Global, texts: &Texts, plan: &[u8]) -> Result<Mapped, Untold> {
+fn mapped_of(alloc: Global, texts: &Texts, plan: &[u8]) -> Result<Mapped, RowFault> {
     let Placed { mapping, tags } = placed_of(alloc, plan)?;
     match wiring_in(alloc, texts, plan) {
         Ok(wiring) => Ok(Mapped {
@@ -87,7 +87,7 @@ fn mapped_of(alloc: Global, texts: &Texts, plan: &[u8]) -> Result<Mapped, Untold
 }
 
 /// The wiring and the mapping of the plan of a name, if there is a name.
-fn side_of(alloc: Global, texts: &Texts, name: &[u8]) -> Result<Option<Mapped>, Untold> {
+fn side_of(alloc: Global, texts: &Texts, name: &[u8]) -> Result<Option<Mapped>, RowFault> {
     if name.is_empty() {
         return Ok(None);
     }
@@ -95,7 +95,7 @@ fn side_of(alloc: Global, texts: &Texts, name: &[u8]) -> Result<Option<Mapped>, 
 }
 
 /// A move between two plans, one of which may be none.
-fn moving(alloc: Global, texts: &Texts, plans: Parts<'_>) -> Result<Phase, Untold> {
+fn moving(alloc: Global, texts: &Texts, plans: Parts<'_>) -> Result<Phase, RowFault> {
     let old = side_of(alloc, texts, plans.before)?;
     match side_of(alloc, texts, plans.behind) {
         Ok(new) => Ok(Phase::Moving { old, new }),
@@ -107,7 +107,7 @@ fn moving(alloc: Global, texts: &Texts, plans: Parts<'_>) -> Result<Phase, Untol
 }
 
 /// How an experiment stands by a plan, or between which two plans it moves.
-fn phase_of(alloc: Global, texts: &Texts, plans: &[u8]) -> Result<Phase, Untold> {
+fn phase_of(alloc: Global, texts: &Texts, plans: &[u8]) -> Result<Phase, RowFault> {
     if let Some(plans) = parted(plans, b'>') {
         return moving(alloc, texts, plans);
     }
@@ -130,7 +130,7 @@ fn first_of(plans: &[u8]) -> &[u8] {
 }
 
 /// The experiment of a word: its name, and its plans.
-fn experiment_of(alloc: Global, texts: &Texts, word: &[u8]) -> Result<Experiment, Untold> {
+fn experiment_of(alloc: Global, texts: &Texts, word: &[u8]) -> Result<Experiment, RowFault> {
     let pair = pair_of(word)?;
     let name = name_in(pair.before)?;
     let phase = phase_of(alloc, texts, pair.behind)?;
@@ -152,7 +152,7 @@ fn push_experiments(
     alloc: Global,
     texts: &Texts,
     words: &[&[u8]],
-) -> Result<(), Untold> {
+) -> Result<(), RowFault> {
     for word in words {
         listed.push(experiment_of(alloc, texts, word)?)?;
     }
@@ -164,7 +164,7 @@ fn experiments_of(
     alloc: Global,
     texts: &Texts,
     words: &[&[u8]],
-) -> Result<Items<Experiment>, Untold> {
+) -> Result<Items<Experiment>, RowFault> {
     let mut listed = Items::new(alloc);
     match push_experiments(&mut listed, alloc, texts, words) {
         Ok(()) => Ok(listed),
@@ -182,7 +182,7 @@ fn push_found(
     lab: &Lab,
     experiments: &[Experiment],
     commands: &[Sent],
-) -> Result<(), Untold> {
+) -> Result<(), RowFault> {
     push_answer(out, is_holding(alloc, lab, experiments)?)?;
     if all_fit(alloc, lab, experiments)? {
         push_answer(out, is_isolated_after(alloc, lab, experiments, commands)?)?;
@@ -199,7 +199,7 @@ fn push_found_in(
     name: &[u8],
     experiments: &[Experiment],
     commands: &[Sent],
-) -> Result<(), Untold> {
+) -> Result<(), RowFault> {
     let lab = lab_of(alloc, texts, name)?;
     let told = push_found(out, alloc, &lab, experiments, commands);
     drop(lab);
@@ -213,7 +213,7 @@ fn push_found_of(
     texts: &Texts,
     words: &[&[u8]],
     commands: &[Sent],
-) -> Result<(), Untold> {
+) -> Result<(), RowFault> {
     let experiments = experiments_of(alloc, texts, words.get(1..).unwrap_or(&[]))?;
     let told = push_found_in(
         out,
@@ -227,8 +227,13 @@ fn push_found_of(
     told
 }
 
-/// Whether the world after the commands behind the bar holds its claims, is isolated and is cabled.
-pub fn tell(out: &mut Text, alloc: Global, texts: &Texts, words: &[&[u8]]) -> Result<(), Untold> {
+/// Whether the world after the commands after the bar holds its claims, is isolated and is cabled.
+pub fn add_output(
+    out: &mut Text,
+    alloc: Global,
+    texts: &Texts,
+    words: &[&[u8]],
+) -> Result<(), RowFault> {
     let halves = at_bar(words);
     let commands = steps_of(alloc, texts, halves.behind)?;
     let told = push_found_of(out, alloc, texts, halves.before, commands.as_slice());

@@ -41,18 +41,18 @@ abbrev pub named : Option VirtNode → List ℕ
 named None = []
 named (Some guest) = guest.name
 
-abbrev pub guest_nth : Lab → Wiring → Mapping → List ℕ → ℕ → List (List ℕ)
-guest_nth lab w m name n = if is_there lab name (slice_get m.places n) then named (slice_get w.nodes n) ∷ [] else []
+abbrev pub hosted_nth : Lab → Wiring → Mapping → List ℕ → ℕ → List (List ℕ)
+hosted_nth lab w m name n = if is_there lab name (slice_get m.places n) then named (slice_get w.nodes n) ∷ [] else []
 
 -- the virtual nodes that a mapping has on the node of that name
-abbrev pub guests_of : Lab → Wiring → Mapping → List ℕ → List (List ℕ)
-guests_of lab w m name = flat_map (guest_nth lab w m name) (range_with_len 0 (length w.nodes))
+abbrev pub hosted_of : Lab → Wiring → Mapping → List ℕ → List (List ℕ)
+hosted_of lab w m name = flat_map (hosted_nth lab w m name) (range_with_len 0 (length w.nodes))
 
-abbrev pub guests_in : Lab → Option Mapped → List ℕ → List (List ℕ)
-guests_in lab None name = []
-guests_in lab (Some m) name = guests_of lab m.wiring m.mapping name
+abbrev pub hosted_in : Lab → Option Mapped → List ℕ → List (List ℕ)
+hosted_in lab None name = []
+hosted_in lab (Some m) name = hosted_of lab m.wiring m.mapping name
 
--- names, and behind them those of others that are not among them
+-- names, and after them those of others that are not among them
 abbrev pub is_among : List (List ℕ) → List ℕ → Bool
 is_among names name = list_any (λ own. bytes_eq own name) names
 
@@ -60,8 +60,8 @@ abbrev pub with_others : List (List ℕ) → List (List ℕ) → List (List ℕ)
 with_others names others = names ++ filter (λ name. not (is_among names name)) others
 
 -- THE VIRTUAL NODES OF AN EXPERIMENT on the node of that name: of its old mapping, and of its new one those that the old one has elsewhere
-abbrev pub guests : Lab → Experiment → List ℕ → List (List ℕ)
-guests lab e name = with_others (guests_in lab (claimed e Old) name) (guests_in lab (claimed e New) name)
+abbrev pub hosted : Lab → Experiment → List ℕ → List (List ℕ)
+hosted lab e name = with_others (hosted_in lab (claimed e Old) name) (hosted_in lab (claimed e New) name)
 
 -- which way an experiment moves
 abbrev pub way_of : Option Mapped → Option Mapped → Stand

@@ -8,5 +8,5 @@ mod plugs;
 
 pub use claimed::{has_tag, how_held, stand_of};
 pub use counts::{ids_claimed, nodes_claimed};
-pub use placed::guests;
+pub use placed::hosted;
 pub use plugs::plugs_by_node;

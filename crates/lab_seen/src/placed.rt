@@ -1,6 +1,6 @@
 // The virtual nodes of an experiment on a node.
 ghost use Rattle.std.specs.Prelude.{◌≡◌, ◌++◌, ◌<◌, length, slice_get, IfOk, OnOk};
-ghost use Rattle.lab_seen.specs.Claimed.{is_there, guest_nth, guests_of, guests_in, is_among, with_others, guests};
+ghost use Rattle.lab_seen.specs.Claimed.{is_there, hosted_nth, hosted_of, hosted_in, is_among, with_others, hosted};
 
 use lab_base::{Items, Memory, Name};
 use lab_model::node_name;
@@ -19,8 +19,8 @@ fn is_there(lab: &Lab, mapping: &Mapping, name: &[u8], number: usize) -> bool
 }
 
 /// The virtual node of that number, where a mapping has it on the node of that name.
-fn push_guest(
-    guests: &mut Items<Name>,
+fn push_hosted_node(
+    hosted: &mut Items<Name>,
     lab: &Lab,
     wiring: &Wiring,
     mapping: &Mapping,
@@ -28,10 +28,10 @@ fn push_guest(
     number: usize,
 ) -> Result<(), Memory>
     requires { number < length wiring.now.nodes }
-    ensures { OnOk result (guests.new ≡ guests.old ++ guest_nth lab.now wiring.now mapping.now name.now number) }
+    ensures { OnOk result (hosted.new ≡ hosted.old ++ hosted_nth lab.now wiring.now mapping.now name.now number) }
 {
     if is_there(lab, mapping, name, number) {
-        guests.push(wiring.nodes.as_slice()[number].name)
+        hosted.push(wiring.nodes.as_slice()[number].name)
     } else {
         Ok(())
     }
@@ -39,32 +39,32 @@ fn push_guest(
 
 /// The virtual nodes that a mapping has on the node of that name.
 #[tactic(auto, using(crate::proofs::Steps::counted_more))]
-fn guests_of(
+fn hosted_of(
     alloc: Global,
     lab: &Lab,
     wiring: &Wiring,
     mapping: &Mapping,
     name: &[u8],
 ) -> Result<Items<Name>, Memory>
-    ensures { IfOk result (λ found. found ≡ guests_of lab.now wiring.now mapping.now name.now) }
+    ensures { IfOk result (λ found. found ≡ hosted_of lab.now wiring.now mapping.now name.now) }
 {
-    let mut guests = Items::new(alloc);
+    let mut hosted = Items::new(alloc);
     for number in 0..wiring.nodes.len() {
-        push_guest(&mut guests, lab, wiring, mapping, name, number)?;
+        push_hosted_node(&mut hosted, lab, wiring, mapping, name, number)?;
     }
-    Ok(guests)
+    Ok(hosted)
 }
 
-fn guests_in(
+fn hosted_in(
     alloc: Global,
     lab: &Lab,
     mapped: &Option<Mapped>,
     name: &[u8],
 ) -> Result<Items<Name>, Memory>
-    ensures { IfOk result (λ found. found ≡ guests_in lab.now mapped.now name.now) }
+    ensures { IfOk result (λ found. found ≡ hosted_in lab.now mapped.now name.now) }
 {
     match mapped {
-        Some(mapped) => guests_of(alloc, lab, &mapped.wiring, &mapped.mapping, name),
+        Some(mapped) => hosted_of(alloc, lab, &mapped.wiring, &mapped.mapping, name),
         None => Ok(Items::new(alloc)),
     }
 }
@@ -94,26 +94,26 @@ fn of_move(
     new: &Option<Mapped>,
     name: &[u8],
 ) -> Result<Items<Name>, Memory>
-    ensures { IfOk result (λ found. found ≡ with_others (guests_in lab.now old.now name.now) (guests_in lab.now new.now name.now)) }
+    ensures { IfOk result (λ found. found ≡ with_others (hosted_in lab.now old.now name.now) (hosted_in lab.now new.now name.now)) }
 {
-    let first = guests_in(alloc, lab, old, name)?;
-    let second = guests_in(alloc, lab, new, name)?;
+    let first = hosted_in(alloc, lab, old, name)?;
+    let second = hosted_in(alloc, lab, new, name)?;
     with_others(alloc, &first, second.as_slice())
 }
 
 /// The virtual nodes of an experiment on the node of that name.
-pub fn guests(
+pub fn hosted(
     alloc: Global,
     lab: &Lab,
     experiment: &Experiment,
     name: &[u8],
 ) -> Result<Items<Name>, Memory>
-    ensures { IfOk result (λ found. found ≡ guests lab.now experiment.now name.now) }
+    ensures { IfOk result (λ found. found ≡ hosted lab.now experiment.now name.now) }
 {
     match &experiment.phase {
         Phase::Out => Ok(Items::new(alloc)),
         Phase::In { mapping, .. } => {
-            let found = guests_of(alloc, lab, &experiment.wiring, mapping, name)?;
+            let found = hosted_of(alloc, lab, &experiment.wiring, mapping, name)?;
             with_others(alloc, &Items::new(alloc), found.as_slice())
         }
         Phase::Moving { old, new } => of_move(alloc, lab, old, new, name),

@@ -6,7 +6,7 @@ use Rattle.journal_rec.proofs.Numbers.{IsBytes}
 use Rattle.journal_rec.specs.Packing.{block}
 use Rattle.journal_model.specs.Journals.{Broken, cut_off, no_record}
 use Rattle.journal_disk.proofs.Walking.{whole}
-use Rattle.lab_sides.specs.Walks.{IsBehind}
+use Rattle.lab_sides.specs.Walks.{IsAfter}
 
 opened : (bytes : List ℕ) → IsBytes bytes → (i : ℕ) → get_or (165 ∷ bytes) i 0 < 256
 opened bytes fits zero = lit< tt
@@ -15,7 +15,7 @@ opened bytes fits (suc i) = fits i
 later : (bytes : List ℕ) (n : ℕ) → drop (n + 5) (165 ∷ bytes) ≡ drop (n + 4) bytes
 later bytes n = let e : n + 5 ≡ suc (n + 4) = omega arith in ap (λ (k : ℕ). drop k (165 ∷ bytes)) e
 
-pub is_whole : (bytes : List ℕ) (len : ℕ) (r : Record) → IsBytes bytes → 4 ≤ length bytes → len ≡ number (take 4 bytes) → len < length bytes - 4 → Decodes (take len (drop 4 bytes)) r → IsBehind bytes r (len + 4)
+pub is_whole : (bytes : List ℕ) (len : ℕ) (r : Record) → IsBytes bytes → 4 ≤ length bytes → len ≡ number (take 4 bytes) → len < length bytes - 4 → Decodes (take len (drop 4 bytes)) r → IsAfter bytes r (len + 4)
 is_whole bytes len r fits long is inside d =
     let w = whole (165 ∷ bytes) len r (opened bytes fits) (omega arith) refl is (omega (arith, inside)) d in
     record {

@@ -10,7 +10,7 @@ use Rattle.lab_sides.specs.declared.walking.Walked.{Walked}
 use Rattle.lab_sides.specs.declared.read.Read.{Read}
 use Rattle.lab_sides.specs.declared.read.Read.TheVariants as reads
 
--- the journal stands on that side, with these records, and a closed gate behind them
+-- the journal stands on that side, with these records, and a closed gate after them
 pub record Stands (a b : List ℕ) (side : Side) (w : Walked) (rs : List Record) : Type 0 where
   pub on_side : live (head a) (head b) ≡ On side
   pub records_are : Records a b rs
@@ -18,7 +18,7 @@ pub record Stands (a b : List ℕ) (side : Side) (w : Walked) (rs : List Record)
   pub gate_is : w.gate ≡ gate_after rs
   pub inside : w.gate < length (of_side side a b)
 
--- the records of a side before a fault: those up to the open gate behind which nothing whole stands; none before a fault of its header, at 0
+-- the records of a side before a fault: those up to the open gate after which nothing whole stands; none before a fault of its header, at 0
 abbrev pub AreBefore : List ℕ → ℕ → List Found → Type 0
 AreBefore bytes at before = ((at ≡ 0) × (before ≡ [])) ⊎ ((rs : List Record) × Breaks (drop 17 bytes) rs × (before ≡ placed 17 rs) × (at ≡ gate_after rs))
 

@@ -2,7 +2,7 @@
 ghost use Rattle.std.specs.Prelude.{◌≡◌};
 ghost use Rattle.lab_sides.specs.Heads.{shut_head, is_cut};
 
-use journal_disk::{HEADER, Head, OPEN, head_behind};
+use journal_disk::{HEADER, Head, OPEN, head_after};
 
 /// The head of a side as if its header gate were open.
 pub fn shut_head(bytes: &[u8]) -> Head
@@ -11,7 +11,7 @@ pub fn shut_head(bytes: &[u8]) -> Head
     if bytes.is_empty() {
         return Head::Blank;
     }
-    head_behind(&bytes[1..])
+    head_after(&bytes[1..])
 }
 
 /// Whether a side ends within its header, whose gate is open.

@@ -5,7 +5,7 @@ ghost use Rattle.journal_model.specs.Journals.{head, live, On};
 ghost use Rattle.lab_sides.specs.Reads.{IsRead};
 
 use crate::walking::{Ended, Walked, walk};
-use journal_disk::{Place, place_in};
+use journal_disk::{LiveSide, place_in};
 use journal_rec::Found;
 use lab_base::{Items, Memory};
 use plant::Side;
@@ -59,9 +59,9 @@ pub fn read_sides(alloc: Global, a: &[u8], b: &[u8]) -> Result<Read, Memory>
     ensures { IfOk result (IsRead a.now b.now) }
 {
     match place_in(a, b) {
-        Place::New => Ok(Read::New),
-        Place::On(side) => read_side(alloc, side, a, b),
-        Place::Wrong(side) => Ok(Read::Bad {
+        LiveSide::New => Ok(Read::New),
+        LiveSide::On(side) => read_side(alloc, side, a, b),
+        LiveSide::Wrong(side) => Ok(Read::Bad {
             side,
             at: 0,
             before: Items::new(alloc),

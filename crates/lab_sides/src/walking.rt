@@ -8,7 +8,7 @@ use journal_rec::Found;
 use lab_base::{Items, Memory};
 use std::alloc::Global;
 
-/// Records one behind another, and the position of the gate behind them.
+/// Records one after another, and the position of the gate after them.
 #[derive(Drop)]
 pub struct Walked {
     pub found: Items<Found>,
@@ -20,7 +20,7 @@ pub struct Walked {
 pub enum Ended {
     /// With a closed gate.
     Whole(Walked),
-    /// With an open gate behind which no record stands.
+    /// With an open gate after which no record stands.
     Torn(Walked),
 }
 

@@ -45,12 +45,12 @@ standing_claimed w (Moving old new) (IsOut h) = absurd (cc h)
 standing_claimed w (Moving old new) (IsIn h) = absurd (cc h)
 
 -- what is known of an experiment that stands still in a lab that is kept
-module _ (place : ClaimedLab) (es : List Experiment) (exp : List ℕ) (e : Experiment) (kept : IsKept (Some place) es) (found : find exp es ≡ Some e) where
+module _ (claimed_lab : ClaimedLab) (es : List Experiment) (exp : List ℕ) (e : Experiment) (kept : IsKept (Some claimed_lab) es) (found : find exp es ≡ Some e) where
   at_exp : Found exp es e
   at_exp = found_from exp es e found
 
-  was : IsKept (Some place) (at_exp.before ++ e ∷ at_exp.after)
-  was = subst (λ l. IsKept (Some place) l) at_exp.whole kept
+  was : IsKept (Some claimed_lab) (at_exp.before ++ e ∷ at_exp.after)
+  was = subst (λ l. IsKept (Some claimed_lab) l) at_exp.whole kept
 
   pub own_found : find e.name es ≡ Some e
   own_found = ap (λ n. find n es) at_exp.name_is ∙ found
@@ -65,34 +65,34 @@ module _ (place : ClaimedLab) (es : List Experiment) (exp : List ℕ) (e : Exper
   own_printable = was.printable e (Has-right at_exp.before (e ∷ at_exp.after) e (inl refl))
 
   -- the mapping with which it stands suits the lab
-  pub standing_suits : (m : Mapped) → standing_in e.wiring e.phase ≡ Some m → IsSound m.wiring × IsShaped place.lab m.wiring m.mapping
+  pub standing_suits : (m : Mapped) → standing_in e.wiring e.phase ≡ Some m → IsSound m.wiring × IsShaped claimed_lab.lab m.wiring m.mapping
   standing_suits m is = by e.phase refl
     where
-      fits : claimed e New ≡ Some m → IsSound m.wiring × IsShaped place.lab m.wiring m.mapping
+      fits : claimed e New ≡ Some m → IsSound m.wiring × IsShaped claimed_lab.lab m.wiring m.mapping
       fits h = let suits = was.sane.holding.fits e New m (Has-right at_exp.before (e ∷ at_exp.after) e (inl refl)) h in (suits.sound, suits.shaped)
 
-      by : (p : Phase) → e.phase ≡ p → IsSound m.wiring × IsShaped place.lab m.wiring m.mapping
+      by : (p : Phase) → e.phase ≡ p → IsSound m.wiring × IsShaped claimed_lab.lab m.wiring m.mapping
       by Out p = none_some m (sym (ap (standing_in e.wiring) p) ∙ is)
       by (In mapping tags) p = fits (ap (λ q. claimed_in e.wiring q New) p ∙ sym (ap (standing_in e.wiring) p) ∙ is)
       by (Moving old new) p = none_some m (sym (ap (standing_in e.wiring) p) ∙ is)
 
   -- what the claims leave to it is what the others leave
-  left_is : (free : Free) → IsLeftTo place.claims exp free → IsLeft place.lab (at_exp.before ++ at_exp.after) e free
+  left_is : (free : Free) → IsLeftTo claimed_lab.claims exp free → IsLeft claimed_lab.lab (at_exp.before ++ at_exp.after) e free
   left_is free left =
-      is_left place.lab at_exp.before at_exp.after e place.claims was.claims free was.sane.is_lab was.sane.holding was.sane.names (subst (λ n. IsLeftTo place.claims n free) (sym at_exp.name_is) left)
+      is_left claimed_lab.lab at_exp.before at_exp.after e claimed_lab.claims was.claims free was.sane.is_lab was.sane.holding was.sane.names (subst (λ n. IsLeftTo claimed_lab.claims n free) (sym at_exp.name_is) left)
 
-  pub free_of : (free : Free) → IsLeftTo place.claims exp free → IsFreeOf place.lab free
+  pub free_of : (free : Free) → IsLeftTo claimed_lab.claims exp free → IsFreeOf claimed_lab.lab free
   free_of free left = (left_is free left).sizes
 
   -- the checker and the free VLAN ids decide whether it can take a mapping
-  pub can_is : (free : Free) (new : Mapped) → IsLeftTo place.claims exp free → IsShaped place.lab new.wiring new.mapping
-      → (is_none (violation place.lab free new.wiring new.mapping) && ((length new.tags == length new.wiring.segments) && are_free_ids place.claims new.tags)) ≡ can_take place.lab es e new
+  pub can_is : (free : Free) (new : Mapped) → IsLeftTo claimed_lab.claims exp free → IsShaped claimed_lab.lab new.wiring new.mapping
+      → (is_none (violation claimed_lab.lab free new.wiring new.mapping) && ((length new.tags == length new.wiring.segments) && are_free_ids claimed_lab.claims new.tags)) ≡ can_take claimed_lab.lab es e new
   can_is free new left shaped =
-      let checked : violation place.lab free new.wiring new.mapping ≡ violation_beside place.lab (others e.name es) e new.wiring new.mapping
-      = same_violation place.lab (at_exp.before ++ at_exp.after) e free new.wiring new.mapping (left_is free left) shaped
-      ∙ ap (λ l. violation_beside place.lab l e new.wiring new.mapping) (sym rest) in
-      let tags : ((length new.tags == length new.wiring.segments) && are_free_ids place.claims new.tags) ≡ are_free_tags place.lab es new.wiring new.tags
-      = sym (free_tags place.lab es place.claims new.wiring new.tags kept.sane.names kept.claims) in
+      let checked : violation claimed_lab.lab free new.wiring new.mapping ≡ violation_beside claimed_lab.lab (others e.name es) e new.wiring new.mapping
+      = same_violation claimed_lab.lab (at_exp.before ++ at_exp.after) e free new.wiring new.mapping (left_is free left) shaped
+      ∙ ap (λ l. violation_beside claimed_lab.lab l e new.wiring new.mapping) (sym rest) in
+      let tags : ((length new.tags == length new.wiring.segments) && are_free_ids claimed_lab.claims new.tags) ≡ are_free_tags claimed_lab.lab es new.wiring new.tags
+      = sym (free_tags claimed_lab.lab es claimed_lab.claims new.wiring new.tags kept.sane.names kept.claims) in
       (λ i. is_none (checked i) && tags i)
 
   module _ (still : IsStill e.phase) where
@@ -110,32 +110,32 @@ module _ (place : ClaimedLab) (es : List Experiment) (exp : List ℕ) (e : Exper
         by New m h = each m h
 
     -- a move to a mapping that it can take
-    pub begins_to : (new : Mapped) → HasText the_texts new.wiring → IsShaped place.lab new.wiring new.mapping → can_take place.lab es e new ≡ true
-        → Begins (state_of (Some place) es) (moving e (Some new)) (claim_of place.lab (moving e (Some new)))
+    pub begins_to : (new : Mapped) → HasText the_texts new.wiring → IsShaped claimed_lab.lab new.wiring new.mapping → can_take claimed_lab.lab es e new ≡ true
+        → Begins (state_of (Some claimed_lab) es) (moving e (Some new)) (claim_of claimed_lab.lab (moving e (Some new)))
     begins_to new text shaped can =
-        let tests : (is_none (violation_beside place.lab (others e.name es) e new.wiring new.mapping) ≡ true) × (are_free_tags place.lab es new.wiring new.tags ≡ true) = and_parts _ _ can in
-        let none : violation_beside place.lab (at_exp.before ++ at_exp.after) e new.wiring new.mapping ≡ None = none_is _ (subst (λ l. is_none (violation_beside place.lab l e new.wiring new.mapping) ≡ true) rest tests.0) in
-        let free : are_free_tags place.lab (at_exp.before ++ e ∷ at_exp.after) new.wiring new.tags ≡ true = subst (λ l. are_free_tags place.lab l new.wiring new.tags ≡ true) at_exp.whole tests.1 in
+        let tests : (is_none (violation_beside claimed_lab.lab (others e.name es) e new.wiring new.mapping) ≡ true) × (are_free_tags claimed_lab.lab es new.wiring new.tags ≡ true) = and_parts _ _ can in
+        let none : violation_beside claimed_lab.lab (at_exp.before ++ at_exp.after) e new.wiring new.mapping ≡ None = none_is _ (subst (λ l. is_none (violation_beside claimed_lab.lab l e new.wiring new.mapping) ≡ true) rest tests.0) in
+        let free : are_free_tags claimed_lab.lab (at_exp.before ++ e ∷ at_exp.after) new.wiring new.tags ≡ true = subst (λ l. are_free_tags claimed_lab.lab l new.wiring new.tags ≡ true) at_exp.whole tests.1 in
         record {
-          lab = place.lab;
+          lab = claimed_lab.lab;
           is_lab = refl;
           before = e;
           found = own_found;
           moving = refl;
           printable = to_printable (Some new) (λ m h. subst (λ (x : Mapped). is_printable x.wiring ≡ true) (same_Some new m h) text.printable);
           claimed = refl;
-          may = λ held of_es. may_take place.lab at_exp.before at_exp.after e (moving e (Some new)) held was.sane.holding was.sane.names (subst (λ l. ClaimsOf place.lab l held) at_exp.whole of_es) new (from_claimed (Some new)) none text.sound shaped free;
+          may = λ held of_es. may_take claimed_lab.lab at_exp.before at_exp.after e (moving e (Some new)) held was.sane.holding was.sane.names (subst (λ l. ClaimsOf claimed_lab.lab l held) at_exp.whole of_es) new (from_claimed (Some new)) none text.sound shaped free;
         }
 
     -- a move out
-    pub begins_out : Begins (state_of (Some place) es) (moving e None) (claim_of place.lab (moving e None))
+    pub begins_out : Begins (state_of (Some claimed_lab) es) (moving e None) (claim_of claimed_lab.lab (moving e None))
     begins_out = record {
-      lab = place.lab;
+      lab = claimed_lab.lab;
       is_lab = refl;
       before = e;
       found = own_found;
       moving = refl;
       printable = to_printable None (λ m h. none_some m h);
       claimed = refl;
-      may = λ held of_es. may_leave place.lab at_exp.before at_exp.after e (moving e None) held was.sane.holding was.sane.names (subst (λ l. ClaimsOf place.lab l held) at_exp.whole of_es) (from_claimed None);
+      may = λ held of_es. may_leave claimed_lab.lab at_exp.before at_exp.after e (moving e None) held was.sane.holding was.sane.names (subst (λ l. ClaimsOf claimed_lab.lab l held) at_exp.whole of_es) (from_claimed None);
     }

@@ -30,18 +30,18 @@ use Rattle.lab_state.proofs.MoveLaws.{turn_of, turned, ending_of, ends_where, en
 -- ---- a lab
 pub lab_twice : (o : Option ClaimedLab) (es : List Experiment) (ptop : List ℕ) → is_some o ≡ true → CannotFollow the_texts (state_of o es) (LabRecord ptop)
 lab_twice None es ptop some u f = absurd (cc some)
-lab_twice (Some place) es ptop some u f = none_some u (sym (ap (λ m. moved (state_of (Some place) es) m) f.says.3) ∙ f.gives)
+lab_twice (Some claimed_lab) es ptop some u f = none_some u (sym (ap (λ m. moved (state_of (Some claimed_lab) es) m) f.says.3) ∙ f.gives)
 
 pub lab_unread : (s : LabState) (ptop : List ℕ) → ((lab : Lab) → IsLab lab → ptop ≡ the_texts.ptop lab → ⊥) → CannotFollow the_texts s (LabRecord ptop)
 lab_unread s ptop none u f = none f.says.0 f.says.1 f.says.2
 
-pub lab_follows : (o : Option ClaimedLab) (es : List Experiment) (ptop : List ℕ) (place : ClaimedLab) → is_some o ≡ false → IsLab place.lab → ptop ≡ the_texts.ptop place.lab → place.claims ≡ none_of place.lab
-    → CanFollow (state_of o es) (LabRecord ptop) (changes.Set place)
-lab_follows None es ptop place none is text claims = record {
-  follows = record { move = SetLab place.lab; says = (place.lab, is, text, refl); gives = refl };
+pub lab_follows : (o : Option ClaimedLab) (es : List Experiment) (ptop : List ℕ) (claimed_lab : ClaimedLab) → is_some o ≡ false → IsLab claimed_lab.lab → ptop ≡ the_texts.ptop claimed_lab.lab → claimed_lab.claims ≡ none_of claimed_lab.lab
+    → CanFollow (state_of o es) (LabRecord ptop) (changes.Set claimed_lab)
+lab_follows None es ptop claimed_lab none is text claims = record {
+  follows = record { move = SetLab claimed_lab.lab; says = (claimed_lab.lab, is, text, refl); gives = refl };
   fits = (refl, claims);
 }
-lab_follows (Some p) es ptop place none is text claims = absurd (cc none)
+lab_follows (Some p) es ptop claimed_lab none is text claims = absurd (cc none)
 
 -- ---- a new experiment
 if_some : {X : Type 0} (t : Bool) (x y : X) → ◌≡◌ {A = Option X} (if t then Some x else None) (Some y) → (t ≡ true) × (x ≡ y)
@@ -67,8 +67,8 @@ bad_is s entry faults.Bad judged = judged
 bad_is s entry faults.Memory judged = tt
 
 pub record Created (o : Option ClaimedLab) (es : List Experiment) (exp top : List ℕ) (second : Bool) : Type 0 where
-  pub place : ClaimedLab
-  pub there : o ≡ Some place
+  pub claimed_lab : ClaimedLab
+  pub there : o ≡ Some claimed_lab
   pub new : find exp es ≡ None
   pub few : length es ≤ 255
   pub wiring : Wiring
@@ -78,18 +78,18 @@ create_found : (o : Option ClaimedLab) (es : List Experiment) (exp top : List �
 create_found None es exp top second u f =
     let says = says_create the_texts (state_of None es) exp top second f.move f.says in
     none_some u (sym (ap (λ m. moved (state_of None es) m) says.2) ∙ f.gives)
-create_found (Some place) es exp top second u f =
-    let says = says_create the_texts (state_of (Some place) es) exp top second f.move f.says in
+create_found (Some claimed_lab) es exp top second u f =
+    let says = says_create the_texts (state_of (Some claimed_lab) es) exp top second f.move f.says in
     let w = says.0 in
     let e : Experiment = record { name = exp; wiring = w; phase = Out } in
-    let gives : moved_of (Some place.lab) es (Creates exp w) ≡ Some u = sym (ap (λ m. moved_of (Some place.lab) es m) says.2) ∙ f.gives in
-    let there = in_state-some place.lab (moved_in place.lab es (Creates exp w)) u gives in
+    let gives : moved_of (Some claimed_lab.lab) es (Creates exp w) ≡ Some u = sym (ap (λ m. moved_of (Some claimed_lab.lab) es m) says.2) ∙ f.gives in
+    let there = in_state-some claimed_lab.lab (moved_in claimed_lab.lab es (Creates exp w)) u gives in
     let both = if_some (is_none (find exp es) && nat_le (length es) 255) (es ++ e ∷ []) there.0 there.1 in
     let tests : (is_none (find exp es) ≡ true) × (nat_le (length es) 255 ≡ true) = and_parts _ _ both.0 in
-    record { place = place; there = refl; new = none_is (find exp es) tests.0; few = leb-true _ _ tests.1; wiring = w; says = says.1 }
+    record { claimed_lab = claimed_lab; there = refl; new = none_is (find exp es) tests.0; few = leb-true _ _ tests.1; wiring = w; says = says.1 }
 
 pub create_nowhere : (o : Option ClaimedLab) (es : List Experiment) (exp top : List ℕ) (second : Bool) → is_some o ≡ false → CannotFollow the_texts (state_of o es) (create_in second exp top)
-create_nowhere o es exp top second none u f = let c = create_found o es exp top second u f in none_some c.place (sym (not_some o none) ∙ c.there)
+create_nowhere o es exp top second none u f = let c = create_found o es exp top second u f in none_some c.claimed_lab (sym (not_some o none) ∙ c.there)
 
 pub create_full : (o : Option ClaimedLab) (es : List Experiment) (exp top : List ℕ) (second : Bool) → 256 ≤ length es → CannotFollow the_texts (state_of o es) (create_in second exp top)
 create_full o es exp top second full u f = let c = create_found o es exp top second u f in omega (arith, c.few)
@@ -105,15 +105,15 @@ create_unread o es exp top second none u f = let c = create_found o es exp top s
 pub create_follows : (o : Option ClaimedLab) (es : List Experiment) (exp top : List ℕ) (second : Bool) (w : Wiring) → is_some o ≡ true → length es < 256 → is_some (find exp es) ≡ false → SaysTop the_texts w top second
     → CanFollow (state_of o es) (create_in second exp top) (changes.Add (record { name = exp; wiring = w; phase = Out }))
 create_follows None es exp top second w some few new says = absurd (cc some)
-create_follows (Some place) es exp top second w some few new says =
+create_follows (Some claimed_lab) es exp top second w some few new says =
     let none : find exp es ≡ None = not_some (find exp es) new in
     let test : (is_none (find exp es) && nat_le (length es) 255) ≡ true = (λ i. is_none (none i) && le-leb (length es) 255 (omega arith) i) in
     let e : Experiment = record { name = exp; wiring = w; phase = Out } in
     record {
       follows = record {
         move = Creates exp w;
-        says = create_says the_texts (state_of (Some place) es) exp top second (Creates exp w) (w, says, refl);
-        gives = ap (λ (t : Bool). in_state place.lab (if t then Some (es ++ e ∷ []) else None)) test;
+        says = create_says the_texts (state_of (Some claimed_lab) es) exp top second (Creates exp w) (w, says, refl);
+        gives = ap (λ (t : Bool). in_state claimed_lab.lab (if t then Some (es ++ e ∷ []) else None)) test;
       };
       fits = (none, refl, record { wiring = says.text.printable; moving = λ which m h. none_some m h });
     }
@@ -125,9 +125,9 @@ deleted_one name es (Some e) xs h = let r = if_some (is_out e.phase) (others nam
 
 delete_says : (o : Option ClaimedLab) (es : List Experiment) (exp : List ℕ) (u : LabState) → Follows the_texts (state_of o es) (Delete exp) u → (e : Experiment) × (find exp es ≡ Some e) × (is_out e.phase ≡ true)
 delete_says None es exp u f = none_some u (sym (ap (λ m. moved (state_of None es) m) f.says) ∙ f.gives)
-delete_says (Some place) es exp u f =
-    let gives : moved_of (Some place.lab) es (Deletes exp) ≡ Some u = sym (ap (λ m. moved_of (Some place.lab) es m) f.says) ∙ f.gives in
-    let there = in_state-some place.lab (moved_in place.lab es (Deletes exp)) u gives in
+delete_says (Some claimed_lab) es exp u f =
+    let gives : moved_of (Some claimed_lab.lab) es (Deletes exp) ≡ Some u = sym (ap (λ m. moved_of (Some claimed_lab.lab) es m) f.says) ∙ f.gives in
+    let there = in_state-some claimed_lab.lab (moved_in claimed_lab.lab es (Deletes exp)) u gives in
     deleted_one exp es (find exp es) there.0 there.1
 
 pub delete_nothing : (o : Option ClaimedLab) (es : List Experiment) (exp : List ℕ) → find exp es ≡ None → CannotFollow the_texts (state_of o es) (Delete exp)
@@ -142,11 +142,11 @@ delete_inside o es exp e found inside u f =
 pub delete_follows : (o : Option ClaimedLab) (es : List Experiment) (exp : List ℕ) (e : Experiment) → IsKept o es → find exp es ≡ Some e → is_out e.phase ≡ true → CanFollow (state_of o es) (Delete exp) (changes.Remove exp)
 delete_follows None es exp e kept found out =
     let none : find exp es ≡ None = ap (find exp) (kept.sane.none refl) in none_some e (sym none ∙ found)
-delete_follows (Some place) es exp e kept found out = record {
+delete_follows (Some claimed_lab) es exp e kept found out = record {
   follows = record {
     move = Deletes exp;
     says = refl;
-    gives = ap (λ x. in_state place.lab (deleted exp es x)) found ∙ ap (λ (t : Bool). in_state place.lab (if t then Some (others exp es) else None)) out;
+    gives = ap (λ x. in_state claimed_lab.lab (deleted exp es x)) found ∙ ap (λ (t : Bool). in_state claimed_lab.lab (if t then Some (others exp es) else None)) out;
   };
   fits = (e, found, out_is e.phase out);
 }
@@ -167,11 +167,11 @@ pub end_follows : (o : Option ClaimedLab) (es : List Experiment) (exp : List ℕ
     → CanFollow (state_of o es) (ending_record exp commit) (changes.End exp commit)
 end_follows None es exp commit e kept found may =
     let none : find exp es ≡ None = ap (find exp) (kept.sane.none refl) in none_some e (sym none ∙ found)
-end_follows (Some place) es exp commit e kept found may =
-    let s = state_of (Some place) es in
-    let u = state place.lab (replace exp (ended commit e) es) in
+end_follows (Some claimed_lab) es exp commit e kept found may =
+    let s = state_of (Some claimed_lab) es in
+    let u = state claimed_lab.lab (replace exp (ended commit e) es) in
     let gives : moved s (ending exp commit) ≡ Some u
-    = turned (Some place.lab) es exp (ending exp commit) place.lab e (ended commit e) (ending_of exp commit) refl found (ends_where place.lab es e exp commit e.phase may) in
+    = turned (Some claimed_lab.lab) es exp (ending exp commit) claimed_lab.lab e (ended commit e) (ending_of exp commit) refl found (ends_where claimed_lab.lab es e exp commit e.phase may) in
     record {
       follows = subst (λ x. Follows the_texts s (ending_record exp commit) x) (sym (ap (or_stays s) gives)) (ending_follows s u exp commit gives);
       fits = (u, gives);

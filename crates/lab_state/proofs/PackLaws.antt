@@ -31,7 +31,7 @@ use Rattle.lab_state.specs.Packing.{creation, entry, turn, stand, packed_phase, 
 use Rattle.lab_state.proofs.Formed.{IsFormedPhase, AreFormed, lab_formed}
 use Rattle.lab_state.proofs.Taken.{taken, ids_fit, holding_first}
 
--- ---- an experiment behind others
+-- ---- an experiment after others
 pub record AtEnd (name : List ℕ) (done : List Experiment) (g : Experiment) : Type 0 where
   pub found : find name (done ++ g ∷ []) ≡ Some g
   pub replaced : (f : Experiment) → replace name f (done ++ g ∷ []) ≡ done ++ f ∷ []
@@ -196,10 +196,10 @@ one_folds t lab done name wiring (Moving (Some m) (Some n)) is_lab new few text 
     (folds_one t mid end (turn t lab name n) (turning t lab is_lab name done new m n next formed.1 (tags_apart lab done e holding) more)))
 
 -- the names of the experiments before one are others
-new_behind : (done rest : List Experiment) (e : Experiment) → AllDiffer (map (λ x. x.name) (done ++ e ∷ rest)) → IsNew e.name done
-new_behind [] rest e differ x h = absurd h
-new_behind (y ∷ done) rest e differ x (inl is) = λ same. differ.0 e.name (Has-mapped (λ z. z.name) (done ++ e ∷ rest) e (Has-right done (e ∷ rest) e (inl refl))) (ap (λ z. z.name) is ∙ same)
-new_behind (y ∷ done) rest e differ x (inr h) = new_behind done rest e differ.1 x h
+new_after : (done rest : List Experiment) (e : Experiment) → AllDiffer (map (λ x. x.name) (done ++ e ∷ rest)) → IsNew e.name done
+new_after [] rest e differ x h = absurd h
+new_after (y ∷ done) rest e differ x (inl is) = λ same. differ.0 e.name (Has-mapped (λ z. z.name) (done ++ e ∷ rest) e (Has-right done (e ∷ rest) e (inl refl))) (ap (λ z. z.name) is ∙ same)
+new_after (y ∷ done) rest e differ x (inr h) = new_after done rest e differ.1 x h
 
 -- ALL OF THEM, in order of creation
 all_folds : (t : Texts) (lab : Lab) (done rest : List Experiment) → IsLab lab → AreFormed t (done ++ rest) → AllDiffer (map (λ x. x.name) (done ++ rest)) → length (done ++ rest) ≤ 256 → Holding lab (done ++ rest)
@@ -209,7 +209,7 @@ all_folds t lab done (e ∷ rest) is_lab formed differ few holding =
     let whole : (done ++ e ∷ []) ++ rest ≡ done ++ e ∷ rest = append_assoc done (e ∷ []) rest in
     let first = formed e (Has-right done (e ∷ rest) e (inl refl)) in
     let held : Holding lab ((done ++ e ∷ []) ++ rest) = subst (Holding lab) (sym whole) holding in
-    let one = one_folds t lab done e.name e.wiring e.phase is_lab (new_behind done rest e differ) (omega (arith, few, length-append done (e ∷ rest))) first.wiring first.phase (holding_first lab (done ++ e ∷ []) rest held) in
+    let one = one_folds t lab done e.name e.wiring e.phase is_lab (new_after done rest e differ) (omega (arith, few, length-append done (e ∷ rest))) first.wiring first.phase (holding_first lab (done ++ e ∷ []) rest held) in
     let more = all_folds t lab (done ++ e ∷ []) rest is_lab (subst (AreFormed t) (sym whole) formed) (subst (λ l. AllDiffer (map (λ x. x.name) l)) (sym whole) differ) (subst (λ l. length l ≤ 256) (sym whole) few) held in
     folds_append t (state lab done) (state lab (done ++ e ∷ [])) (state lab (done ++ e ∷ rest)) (packed_one t lab e) (flat_map (packed_one t lab) rest) one
     (subst (λ l. FoldsTo t (state lab (done ++ e ∷ [])) (flat_map (packed_one t lab) rest) (state lab l)) whole more)

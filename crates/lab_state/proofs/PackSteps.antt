@@ -1,4 +1,4 @@
--- Records that are packed one behind the other.
+-- Records that are packed one after the other.
 use Rattle.std.specs.List.{flat_map}
 use Rattle.std.proofs.Common.{◌≡◌, ◌+◌, ◌<◌, ◌≤◌, ℕ, zero, suc, Bool, true, false, Option, Some, None, Result, Ok, Err, List, [], ◌∷◌, ◌++◌, length, take, refl, sym, ap, ◌∙◌, subst, arith, add-one, length-append, append_assoc}
 use Rattle.std.specs.Prelude.{OnOk, slice_get}
@@ -27,17 +27,17 @@ use Rattle.records_model.specs.Labs.{Texts, create_in, change_in}
 use Rattle.records_model.proofs.Finding.{none_some}
 use Rattle.lab_state.specs.Packing.{packed_phase, PacksMore}
 
--- one list behind another
+-- one list after another
 pub packs_on : (one two three : List ℕ) (rs ss : List Record) → PacksMore one two rs → PacksMore two three ss → PacksMore one three (rs ++ ss)
 packs_on one two three rs ss first second before packed = subst (λ l. ArePacked three l) (append_assoc before rs ss) (second (before ++ rs) (first before packed))
 
--- a record behind the others
+-- a record after the others
 pub packs_one : {E : Type 0} (r : Result (Unit {0}) E) (old new bytes : List ℕ) (entry : Record) → IsBody bytes entry
     → OnOk r ((rs : List Record) (x : Record) → ArePacked old rs → IsBody bytes x → ArePacked new (rs ++ x ∷ [])) → OnOk r (PacksMore old new (entry ∷ []))
 packs_one (Ok u) old new bytes entry is h = λ before packed. h before entry packed is
 packs_one (Err e) old new bytes entry is h = tt
 
--- records behind some that were packed before
+-- records after some that were packed before
 pub packs_then : {E : Type 0} (r : Result (Unit {0}) E) (one two three : List ℕ) (rs ss : List Record) → PacksMore one two rs → OnOk r (PacksMore two three ss) → OnOk r (PacksMore one three (rs ++ ss))
 packs_then (Ok u) one two three rs ss first second = packs_on one two three rs ss first second
 packs_then (Err e) one two three rs ss first second = tt

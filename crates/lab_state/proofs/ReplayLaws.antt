@@ -10,10 +10,10 @@ use Rattle.lab_state.specs.declared.fault.ReplayFault.{ReplayFault}
 use Rattle.lab_state.specs.declared.fault.ReplayFault.TheVariants as faults
 use Rattle.lab_state.specs.Replays.{records_of, IsFollowed, IsStopped}
 
--- the record behind those that were followed is the first that can't follow
-pub stops_behind : (s mid : LabState) (rs : List Record) (r : Record) (rest : List Record) → FoldsTo the_texts s rs mid → CannotFollow the_texts mid r → StopsAt the_texts s (rs ++ r ∷ rest) (length rs)
-stops_behind s mid [] r rest folds cannot = subst (λ x. CannotFollow the_texts x r) (sym folds) cannot
-stops_behind s mid (q ∷ rs) r rest folds cannot = (folds.0, folds.1, stops_behind folds.0 mid rs r rest folds.2 cannot)
+-- the record after those that were followed is the first that can't follow
+pub stops_after : (s mid : LabState) (rs : List Record) (r : Record) (rest : List Record) → FoldsTo the_texts s rs mid → CannotFollow the_texts mid r → StopsAt the_texts s (rs ++ r ∷ rest) (length rs)
+stops_after s mid [] r rest folds cannot = subst (λ x. CannotFollow the_texts x r) (sym folds) cannot
+stops_after s mid (q ∷ rs) r rest folds cannot = (folds.0, folds.1, stops_after folds.0 mid rs r rest folds.2 cannot)
 
 length_records : (founds : List Found) → length (records_of founds) ≡ length founds
 length_records [] = refl
@@ -44,10 +44,10 @@ stopped founds n found s h is lab cannot =
     let whole : founds ≡ take n founds ++ found ∷ drop (suc n) founds = parts_are founds n found h ∙ ap (λ (f : Found). take n founds ++ f ∷ drop (suc n) founds) (sym is) in
     let records : records_of (take n founds) ++ found.entry ∷ records_of (drop (suc n) founds) ≡ records_of founds
     = sym (map-append (λ (f : Found). f.entry) (take n founds) (found ∷ drop (suc n) founds)) ∙ ap records_of (sym whole) in
-    let place : length (records_of (take n founds)) ≡ n = length_records (take n founds) ∙ length_taken founds n h in
+    let claimed_lab : length (records_of (take n founds)) ≡ n = length_records (take n founds) ∙ length_taken founds n h in
     subst (λ rs. StopsAt the_texts at_first rs n) records
-    (subst (λ k. StopsAt the_texts at_first (records_of (take n founds) ++ found.entry ∷ records_of (drop (suc n) founds)) k) place
-    (stops_behind at_first s (records_of (take n founds)) found.entry (records_of (drop (suc n) founds)) lab cannot))
+    (subst (λ k. StopsAt the_texts at_first (records_of (take n founds) ++ found.entry ∷ records_of (drop (suc n) founds)) k) claimed_lab
+    (stops_after at_first s (records_of (take n founds)) found.entry (records_of (drop (suc n) founds)) lab cannot))
 
 pub stopped_at : (founds : List Found) (n : ℕ) (found : Found) (s u : LabState) (fault : ReplayFault) → n < length founds → found ≡ get_or founds n found → LabOf the_texts (records_of (take n founds)) s
     → IsFollowed {X = Unit {0}} s found.entry n (Err fault) u → IsStopped {X = Unit {0}} (records_of founds) (Err fault)

@@ -39,7 +39,7 @@ with_experiments s es = record { lab = s.lab; experiments = es }
 
 -- THE STATE AFTER a change
 abbrev pub after : LabState → Change → LabState
-after s (Set place) = record { lab = Some place.lab; experiments = [] }
+after s (Set claimed_lab) = record { lab = Some claimed_lab.lab; experiments = [] }
 after s (Add e) = with_experiments s (s.experiments ++ e ∷ [])
 after s (Remove exp) = with_experiments s (others exp s.experiments)
 after s (Begin e claim) = with_experiments s (replace e.name e s.experiments)
@@ -68,7 +68,7 @@ pub record Begins (s : LabState) (f : Experiment) (claim : Claim) : Type 0 where
 
 -- nothing is set yet, and nothing claimed; a new experiment that is out; one that is there and out; one that begins; one that can end
 abbrev pub Fits : LabState → Change → Type 0
-Fits s (Set place) = (s.lab ≡ None) × (place.claims ≡ none_of place.lab)
+Fits s (Set claimed_lab) = (s.lab ≡ None) × (claimed_lab.claims ≡ none_of claimed_lab.lab)
 Fits s (Add e) = (find e.name s.experiments ≡ None) × (e.phase ≡ Out) × ArePrintable e
 Fits s (Remove exp) = (e : Experiment) × (find exp s.experiments ≡ Some e) × (e.phase ≡ Out)
 Fits s (Begin e claim) = Begins s e claim

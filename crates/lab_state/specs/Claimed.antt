@@ -7,12 +7,12 @@ use Rattle.lab_state.specs.declared.claimed_lab.ClaimedLab.{ClaimedLab}
 
 -- the lab with other claims
 abbrev pub with_claims : ClaimedLab → Held → ClaimedLab
-with_claims place held = record { lab = place.lab; claims = held }
+with_claims claimed_lab held = record { lab = claimed_lab.lab; claims = held }
 
 -- with the claim of an experiment
 abbrev pub noted : List ℕ → Claim → Option ClaimedLab → Option ClaimedLab
 noted exp claim None = None
-noted exp claim (Some place) = Some (with_claims place (with_claim exp claim place.claims))
+noted exp claim (Some claimed_lab) = Some (with_claims claimed_lab (with_claim exp claim claimed_lab.claims))
 
 -- with one side of the claim of an experiment that stands, or without it
 abbrev pub kept_side : Bool → List ℕ → Bool → Held → Held
@@ -20,4 +20,4 @@ kept_side stands exp commit held = if stands then narrowed exp commit held else 
 
 abbrev pub settled : Bool → List ℕ → Bool → Option ClaimedLab → Option ClaimedLab
 settled stands exp commit None = None
-settled stands exp commit (Some place) = Some (with_claims place (kept_side stands exp commit place.claims))
+settled stands exp commit (Some claimed_lab) = Some (with_claims claimed_lab (kept_side stands exp commit claimed_lab.claims))

@@ -18,18 +18,18 @@ pub record ArePrintable (e : Experiment) : Type 0 where
 -- the lab, if there is one
 abbrev pub lab_of : Option ClaimedLab → Option Lab
 lab_of None = None
-lab_of (Some place) = Some place.lab
+lab_of (Some claimed_lab) = Some claimed_lab.lab
 
 abbrev pub state_of : Option ClaimedLab → List Experiment → LabState
-state_of place es = record { lab = lab_of place; experiments = es }
+state_of claimed_lab es = record { lab = lab_of claimed_lab; experiments = es }
 
 -- the claims of the lab are those of the experiments
 abbrev pub ClaimsStand : Option ClaimedLab → List Experiment → Type 0
 ClaimsStand None es = Unit {0}
-ClaimsStand (Some place) es = ClaimsOf place.lab es place.claims
+ClaimsStand (Some claimed_lab) es = ClaimsOf claimed_lab.lab es claimed_lab.claims
 
 -- the state is sane, each wiring can be printed, and the claims are those of the experiments
-pub record IsKept (place : Option ClaimedLab) (es : List Experiment) : Type 0 where
-  pub sane : Sane (state_of place es)
+pub record IsKept (claimed_lab : Option ClaimedLab) (es : List Experiment) : Type 0 where
+  pub sane : Sane (state_of claimed_lab es)
   pub printable : (e : Experiment) → Has es e → ArePrintable e
-  pub claims : ClaimsStand place es
+  pub claims : ClaimsStand claimed_lab es

@@ -49,6 +49,6 @@ packed_in t (Some lab) es = LabRecord (t.ptop lab) ∷ flat_map (packed_one t la
 abbrev pub packed_of : Texts → LabState → List Record
 packed_of t s = packed_in t s.lab s.experiments
 
--- these records are packed behind the others
+-- these records are packed after the others
 abbrev pub PacksMore : List ℕ → List ℕ → List Record → Type 0
 PacksMore old new rs = (before : List Record) → ArePacked old before → ArePacked new (before ++ rs)

@@ -76,8 +76,8 @@ impl Begun {
 impl ClaimedLab {
     /// A lab with no claim.
     pub(crate) fn new(alloc: Global, lab: Lab) -> Result<ClaimedLab, Memory>
-        ensures lab { IfOk result (λ place. place.lab ≡ lab) }
-        ensures claims { IfOk result (λ place. place.claims ≡ none_of lab) }
+        ensures lab { IfOk result (λ claimed_lab. claimed_lab.lab ≡ lab) }
+        ensures claims { IfOk result (λ claimed_lab. claimed_lab.claims ≡ none_of lab) }
     {
         let claims = Claims::empty(alloc, &lab)?;
         Ok(ClaimedLab { lab, claims })

@@ -18,39 +18,39 @@ use lab_base::Name;
 use virt_topo::Experiment;
 
 /// Sets the claim of an experiment, where there is a lab.
-fn note(place: &mut Option<ClaimedLab>, exp: Name, claim: Claim)
-    requires may { IfSome place.old (λ p. MayAdd p.claims exp claim) }
-    requires few { IfSome place.old (λ p. length (others exp p.claims.entries) < MAX_EXPERIMENTS) }
-    ensures { place.new ≡ noted exp claim place.old }
+fn note(claimed_lab: &mut Option<ClaimedLab>, exp: Name, claim: Claim)
+    requires may { IfSome claimed_lab.old (λ p. MayAdd p.claims exp claim) }
+    requires few { IfSome claimed_lab.old (λ p. length (others exp p.claims.entries) < MAX_EXPERIMENTS) }
+    ensures { claimed_lab.new ≡ noted exp claim claimed_lab.old }
 {
-    if let Some(place) = place {
-        place.claims.note(exp, claim);
+    if let Some(claimed_lab) = claimed_lab {
+        claimed_lab.claims.note(exp, claim);
     } else {
         drop(claim);
     }
 }
 
 /// Keeps one side of the claim of an experiment whose move has ended, or drops the claim where the experiment is out.
-fn settle(place: &mut Option<ClaimedLab>, exp: Name, commit: bool, stands: bool)
-    ensures { place.new ≡ settled stands exp commit place.old }
+fn settle(claimed_lab: &mut Option<ClaimedLab>, exp: Name, commit: bool, stands: bool)
+    ensures { claimed_lab.new ≡ settled stands exp commit claimed_lab.old }
 {
-    if let Some(place) = place {
+    if let Some(claimed_lab) = claimed_lab {
         if stands {
-            place.claims.narrow(exp, commit);
+            claimed_lab.claims.narrow(exp, commit);
         } else {
-            place.claims.drop_claim(exp);
+            claimed_lab.claims.drop_claim(exp);
         }
     }
 }
 
 impl LabState {
-    pub(crate) fn set(&mut self, place: ClaimedLab)
+    pub(crate) fn set(&mut self, claimed_lab: ClaimedLab)
         requires first { self.old.state.lab ≡ None }
-        requires claims { place.claims ≡ none_of place.lab }
-        requires sane { Sane (after self.old.state (changes.Set place)) }
-        ensures { self.new.state ≡ after self.old.state (changes.Set place) }
+        requires claims { claimed_lab.claims ≡ none_of claimed_lab.lab }
+        requires sane { Sane (after self.old.state (changes.Set claimed_lab)) }
+        ensures { self.new.state ≡ after self.old.state (changes.Set claimed_lab) }
     {
-        self.place = Some(place);
+        self.claimed_lab = Some(claimed_lab);
     }
 
     pub(crate) fn add(&mut self, experiment: Experiment)
@@ -77,7 +77,7 @@ impl LabState {
         requires sane { Sane (after self.old.state (changes.Begin experiment claim)) }
         ensures { self.new.state ≡ after self.old.state (changes.Begin experiment claim) }
     {
-        note(&mut self.place, experiment.name, claim);
+        note(&mut self.claimed_lab, experiment.name, claim);
         self.experiments.put(experiment);
     }
 
@@ -87,6 +87,6 @@ impl LabState {
         ensures { moved self.old.state (ending exp commit) ≡ Some self.new.state }
     {
         let stands = self.experiments.end_move(exp, commit);
-        settle(&mut self.place, exp, commit, stands);
+        settle(&mut self.claimed_lab, exp, commit, stands);
     }
 }

@@ -24,12 +24,12 @@ impl LabState {
         requires { length text.now < TEXT_LIMIT }
         ensures { IsJudged self.now.state (records.Lab text.now) result }
     {
-        if self.place.is_some() {
+        if self.claimed_lab.is_some() {
             return Err(PrepareFault::Bad);
         }
         let lab = lab_of(self.alloc, text)?;
-        let place = ClaimedLab::new(self.alloc, lab)?;
-        Ok(Change::Set(place))
+        let claimed_lab = ClaimedLab::new(self.alloc, lab)?;
+        Ok(Change::Set(claimed_lab))
     }
 
     /// Judges the record of a new experiment. It needs a lab, a new name, at most 255 experiments there, and the record's format has to be that of
@@ -38,7 +38,7 @@ impl LabState {
         requires { length text.now < TEXT_LIMIT }
         ensures { IsJudged self.now.state (create_in second exp text.now) result }
     {
-        if self.place.is_none() {
+        if self.claimed_lab.is_none() {
             return Err(PrepareFault::Bad);
         }
         if self.experiments.len() >= MAX_EXPERIMENTS {
@@ -76,7 +76,7 @@ impl LabState {
         requires { length map.now < TEXT_LIMIT }
         ensures { IsJudged self.now.state (records.Begin exp (ways.In map.now tags.now)) result }
     {
-        let Some(place) = &self.place else {
+        let Some(claimed_lab) = &self.claimed_lab else {
             return Err(PrepareFault::Bad);
         };
         let Some(experiment) = self.experiments.named(exp) else {
@@ -86,21 +86,21 @@ impl LabState {
             return Err(PrepareFault::Bad);
         }
         let tags = tags.copy(self.alloc)?;
-        let mapping = mapping_of(self.alloc, &place.lab, &experiment.wiring, map)?;
+        let mapping = mapping_of(self.alloc, &claimed_lab.lab, &experiment.wiring, map)?;
         let wiring = experiment.wiring.copy(self.alloc)?;
         let new = Mapped {
             wiring,
             mapping,
             tags,
         };
-        place.take(self.alloc, experiment, new)
+        claimed_lab.take(self.alloc, experiment, new)
     }
 
     /// Judges the begin of a swap-out: the experiment has to be in.
     fn judge_out(&self, exp: Name) -> Result<Change, PrepareFault>
         ensures { IsJudged self.now.state (records.Begin exp ways.Out) result }
     {
-        let Some(place) = &self.place else {
+        let Some(claimed_lab) = &self.claimed_lab else {
             return Err(PrepareFault::Bad);
         };
         let Some(experiment) = self.experiments.named(exp) else {
@@ -109,7 +109,7 @@ impl LabState {
         if !is_in(&experiment.phase) {
             return Err(PrepareFault::Bad);
         }
-        let change = place.begin(self.alloc, experiment, None)?;
+        let change = claimed_lab.begin(self.alloc, experiment, None)?;
         Ok(change)
     }
 
@@ -126,7 +126,7 @@ impl LabState {
         requires map { length map.now < TEXT_LIMIT }
         ensures { IsJudged self.now.state (records.Begin exp (change_in second top.now map.now tags.now)) result }
     {
-        let Some(place) = &self.place else {
+        let Some(claimed_lab) = &self.claimed_lab else {
             return Err(PrepareFault::Bad);
         };
         let Some(experiment) = self.experiments.named(exp) else {
@@ -137,13 +137,13 @@ impl LabState {
         }
         let tags = tags.copy(self.alloc)?;
         let wiring = wiring_in(self.alloc, top, second)?;
-        let mapping = mapping_of(self.alloc, &place.lab, &wiring, map)?;
+        let mapping = mapping_of(self.alloc, &claimed_lab.lab, &wiring, map)?;
         let new = Mapped {
             wiring,
             mapping,
             tags,
         };
-        place.take(self.alloc, experiment, new)
+        claimed_lab.take(self.alloc, experiment, new)
     }
 
     fn judge_begin(&self, exp: Name, way: &Way) -> Result<Change, PrepareFault>

@@ -305,10 +305,10 @@ impl LabState {
     {
         let mut packed = Packed::new(self.alloc)?;
         let experiments = &self.experiments;
-        match &self.place {
-            Some(place) => {
-                push_lab(self.alloc, &mut packed, &place.lab)?;
-                push_all(self.alloc, &mut packed, &place.lab, experiments)?;
+        match &self.claimed_lab {
+            Some(claimed_lab) => {
+                push_lab(self.alloc, &mut packed, &claimed_lab.lab)?;
+                push_all(self.alloc, &mut packed, &claimed_lab.lab, experiments)?;
                 Ok(packed)
             }
             None => Ok(packed),

@@ -25,7 +25,7 @@ use virt_topo::Experiment;
 #[derive(Drop)]
 pub struct LabState {
     pub(crate) alloc: Global,
-    pub(crate) place: Option<ClaimedLab>,
+    pub(crate) claimed_lab: Option<ClaimedLab>,
     pub(crate) experiments: Experiments,
 }
 
@@ -35,9 +35,9 @@ impl Model for LabState {
 
     ghost Value = { Seen };
 
-    ghost view = { λ s. record { state = state_of s.place s.experiments.list; room = s.experiments.room } };
+    ghost view = { λ s. record { state = state_of s.claimed_lab s.experiments.list; room = s.experiments.room } };
 
-    ghost invariant = { λ s. IsKept s.place s.experiments.list };
+    ghost invariant = { λ s. IsKept s.claimed_lab s.experiments.list };
 }
 
 impl LabState {
@@ -47,7 +47,7 @@ impl LabState {
     {
         LabState {
             alloc,
-            place: None,
+            claimed_lab: None,
             experiments: Experiments::new(alloc),
         }
     }
@@ -60,8 +60,8 @@ impl LabState {
     {
         // for the prover: it tells what the experiments keep
         let _kept = &self.experiments;
-        match &self.place {
-            Some(place) => Some(&place.lab),
+        match &self.claimed_lab {
+            Some(claimed_lab) => Some(&claimed_lab.lab),
             None => None,
         }
     }
@@ -71,8 +71,8 @@ impl LabState {
         ensures some { is_some result ≡ is_some self.now.state.lab }
         ensures claims { IfSome result (λ claims. ClaimsOf (lab_in self.now.state.lab) self.now.state.experiments claims.now) }
     {
-        match &self.place {
-            Some(place) => Some(&place.claims),
+        match &self.claimed_lab {
+            Some(claimed_lab) => Some(&claimed_lab.claims),
             None => None,
         }
     }
@@ -136,7 +136,7 @@ impl LabState {
     {
         let Prepared { change } = prepared;
         match change {
-            Change::Set(place) => self.set(place),
+            Change::Set(claimed_lab) => self.set(claimed_lab),
             Change::Add(experiment) => self.add(experiment),
             Change::Remove(exp) => self.remove(exp),
             Change::Begin { experiment, claim } => self.begin(experiment, claim),

@@ -1,4 +1,4 @@
--- The line of a fault of a solution text is one of its lines, or the one behind them; and how long a block is.
+-- The line of a fault of a solution text is one of its lines, or the one after them; and how long a block is.
 use Rattle.std.proofs.Common.{◌≡◌, ◌+◌, ◌<◌, ◌≤◌, ◌==◌, ℕ, Bool, true, false, Option, Some, None, Result, Ok, Err, List, [], ◌∷◌, length, cond, refl, ap, sym, ◌∙◌, arith}
 use Rattle.std.specs.List.{onto_first}
 use Rattle.lab_base.specs.Texts.{lines_of}

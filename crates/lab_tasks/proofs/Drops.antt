@@ -1,4 +1,4 @@
--- The rest of a list behind so many.
+-- The rest of a list after so many.
 use Rattle.std.proofs.Common.{◌≡◌, ◌≤◌, ◌<◌, ℕ, zero, suc, List, [], ◌∷◌, drop, length, get_or, refl, sym, ap, arith}
 
 -- ---- LISTS

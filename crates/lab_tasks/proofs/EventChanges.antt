@@ -68,7 +68,7 @@ module _ (s : LabState) (busy : Bool) (exp : List ℕ) (lab : Lab) (e : Experime
 
 module _ (exp : List ℕ) (text : Wiring) (event : LinkEvent) (s : LabState) (busy : Bool) (count : ℕ) (sane : Sane s) (printable : (e : Experiment) → Has s.experiments e → is_printable e.wiring ≡ true)
     (sound_text : IsSound text) (limits : KeepsLimits event.what) where
-  -- the wiring behind it is sound, its text is read back, and so is that of the mapping
+  -- the wiring after it is sound, its text is read back, and so is that of the mapping
   reads : (lab : Lab) (e : Experiment) (needed : need_idle_in s busy exp ≡ Ok (lab, e)) → lacks_shape event.link text e.wiring ≡ false → (w : Wiring) → IsApplied event text e.wiring w → (lines : ℕ)
       → judged_modify_with s busy exp lines (canonical_top w) (canonical_solution lab w (mapping_in e.phase)) ≡ judged_change s lab e w (mapping_in e.phase)
   reads lab e needed shaped w applied lines =

@@ -97,7 +97,7 @@ due_has from to events due schedule e has =
     let there = subst (λ (l : List LinkEvent). Has l e) (schedule.each_moment e.at) here in
     (Has-filter (is_due from to) events e (Has-filter (λ (x : LinkEvent). x.at == e.at) (filter (is_due from to) events) e there).0).0
 
--- the shape of all behind one that has its own, and of all where one lacks it
+-- the shape of all after one that has its own, and of all where one lacks it
 pub next_shaped : (exp : List ℕ) (text : Wiring) (event : LinkEvent) (left : List LinkEvent) (now : Wiring) → need_shape exp text event now ≡ Ok tt → need_shapes exp text (event ∷ left) now ≡ need_shapes exp text left now
 next_shaped exp text event left now is = by (lacks_shape event.link text now) is
   where

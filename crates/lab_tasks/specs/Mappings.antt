@@ -33,9 +33,9 @@ judged_swapin_with s busy exp text = do
   mapping ← need_meaning (Bad exp) (mapping_of_text p.0 p.1.wiring text)
   judged_mapping s p.0 p.1 mapping
 
--- the fault of a second block, whose lines are counted behind those of the first
-abbrev pub behind_lines : ℕ → TextFault → TextFault
-behind_lines lines fault = record { line = lines + fault.line; kind = fault.kind }
+-- the fault of a second block, whose lines are counted after those of the first
+abbrev pub after_lines : ℕ → TextFault → TextFault
+after_lines lines fault = record { line = lines + fault.line; kind = fault.kind }
 
 -- an experiment changes to that wiring, and goes there; the record is of the second format where the wiring has a multiplexed segment
 abbrev pub task_over : LabState → Lab → Experiment → Wiring → Mapping → Task
@@ -51,7 +51,7 @@ abbrev pub judged_modify_with : LabState → Bool → List ℕ → ℕ → List 
 judged_modify_with s busy exp lines top map = do
   p ← need_idle_in s busy exp
   w ← need_meaning (Bad exp) (wiring_of_text top)
-  mapping ← need_meaning (λ fault. Bad exp (behind_lines lines fault)) (mapping_of_text p.0 w map)
+  mapping ← need_meaning (λ fault. Bad exp (after_lines lines fault)) (mapping_of_text p.0 w map)
   judged_change s p.0 p.1 w mapping
 
 -- a swap that nothing else refuses needs room among the open swaps, and is only begun where `open` stands before it

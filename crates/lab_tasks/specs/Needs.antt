@@ -43,8 +43,8 @@ need_new exp None = Ok tt
 need_new exp (Some e) = Err (Exists exp)
 
 -- a new experiment needs a lab and a new name
-abbrev pub need_place : LabState → List ℕ → Result (Unit {0}) Reply
-need_place s exp = do
+abbrev pub need_lab_and_name : LabState → List ℕ → Result (Unit {0}) Reply
+need_lab_and_name s exp = do
   lab ← need_lab s.lab
   need_new exp (find exp s.experiments)
 

@@ -14,7 +14,7 @@ ghost use Rattle.top_text.specs.Canonical.{canonical_top};
 ghost use Rattle.top_text.specs.Printable.{is_printable};
 ghost use Rattle.virt_topo.specs.Soundness.{IsSound};
 ghost use Rattle.lab_tasks.specs.OpenNames.{has_open};
-ghost use Rattle.lab_tasks.specs.Mappings.{behind_lines, judged_change, judged_modify_with, task_over};
+ghost use Rattle.lab_tasks.specs.Mappings.{after_lines, judged_change, judged_modify_with, task_over};
 ghost use Rattle.lab_tasks.specs.JudgeSwap.{IsInIn, IsTaskOf, Keeps, change_of, way_over};
 ghost use Rattle.lab_tasks.specs.Tasks.{CanDo, Gives, IsRefusedBy, task_of};
 
@@ -32,10 +32,10 @@ use swap_plan::{Ops, plan_change};
 use top_text::{print_top, read_top};
 use virt_topo::{Mapped, Mapping, Wiring, has_multiplexed};
 
-/// The second block of that experiment has no meaning. Its lines are counted behind those of the first.
-fn bad_behind(exp: Name, lines: u16, refused: TextRefused) -> Refusal
+/// The second block of that experiment has no meaning. Its lines are counted after those of the first.
+fn bad_after(exp: Name, lines: u16, refused: TextRefused) -> Refusal
     requires { (fault : AnyTextFault) → refused ≡ refusals.Text fault → lines + fault.line < 2 ^ 32 }
-    ensures { IsRefusedBy (λ fault. replies.Bad exp (behind_lines lines fault)) refused result }
+    ensures { IsRefusedBy (λ fault. replies.Bad exp (after_lines lines fault)) refused result }
 {
     match refused {
         TextRefused::Text(TextFault { line, kind }) => Refusal::Refused(Reply::Bad {
@@ -132,18 +132,18 @@ fn plan_swap_over(
 pub fn change_to(
     alloc: Global,
     case: &Case,
-    place: (&Mapping, &Tags),
+    occupied: (&Mapping, &Tags),
     wiring: Wiring,
     mapping: Mapping,
 ) -> Result<Task, Memory>
-    requires inside { IsInIn case.now.state.now.state case.now.lab.now case.now.experiment.now place.0.now place.1.now }
+    requires inside { IsInIn case.now.state.now.state case.now.lab.now case.now.experiment.now occupied.0.now occupied.1.now }
     requires sound { IsSound wiring }
     requires keeps { Keeps case.now.state.now.state case.now.lab.now case.now.experiment.now wiring mapping }
     ensures task { IfOk result (λ task. task_of task ≡ task_over case.now.state.now.state case.now.lab.now case.now.experiment.now wiring mapping) }
     ensures can { IfOk result (CanDo case.now.state.now.state) }
 {
     let tags = take_tags(alloc, case, &wiring)?;
-    let old = mapped_copy(alloc, &case.experiment.wiring, place.0, place.1)?;
+    let old = mapped_copy(alloc, &case.experiment.wiring, occupied.0, occupied.1)?;
     let new = Mapped {
         wiring,
         mapping,
@@ -158,11 +158,11 @@ pub fn change_to(
 pub(crate) fn judge_change(
     alloc: Global,
     case: &Case,
-    place: (&Mapping, &Tags),
+    occupied: (&Mapping, &Tags),
     wiring: Wiring,
     mapping: Mapping,
 ) -> Result<Task, Refusal>
-    requires inside { IsInIn case.now.state.now.state case.now.lab.now case.now.experiment.now place.0.now place.1.now }
+    requires inside { IsInIn case.now.state.now.state case.now.lab.now case.now.experiment.now occupied.0.now occupied.1.now }
     requires sound { IsSound wiring }
     requires shaped { IsShaped case.now.lab.now wiring mapping }
     ensures judged { Gives (judged_change case.now.state.now.state case.now.lab.now case.now.experiment.now wiring mapping) result }
@@ -173,7 +173,7 @@ pub(crate) fn judge_change(
         drop(mapping);
         return Err(refusal);
     }
-    let task = change_to(alloc, case, place, wiring, mapping)?;
+    let task = change_to(alloc, case, occupied, wiring, mapping)?;
     Ok(task)
 }
 
@@ -203,6 +203,6 @@ pub fn judge_modify_with(
     };
     match read_solution(alloc, map, lab, &wiring) {
         Ok(given) => judge_change(alloc, &case, (mapping, tags), wiring, given),
-        Err(refused) => Err(bad_behind(exp, lines, refused)),
+        Err(refused) => Err(bad_after(exp, lines, refused)),
     }
 }

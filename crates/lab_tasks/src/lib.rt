@@ -17,8 +17,8 @@ pub use case::{Case, Present};
 pub use change::{change_to, judge_modify_with};
 pub use laws::link_events;
 pub use needs::{
-    bad_text, in_slot, need_found, need_idle_in, need_idle_out, need_lab, need_none, need_open,
-    need_place, need_room,
+    bad_text, in_slot, need_found, need_idle_in, need_idle_out, need_lab, need_lab_and_name,
+    need_none, need_open, need_room,
 };
 pub use play::{Play, Span, judge_event, judge_play};
 pub use swap::{judge_swapin_with, swap_to};

@@ -8,7 +8,7 @@ ghost use Rattle.script_text.specs.declared.reply.Reply.{Reply as AnyReply};
 ghost use Rattle.script_text.specs.declared.reply.Reply.TheVariants as replies;
 ghost use Rattle.top_text.specs.Printable.{is_printable};
 ghost use Rattle.lab_tasks.specs.OpenNames.{has_open};
-ghost use Rattle.lab_tasks.specs.Needs.{need_found, need_idle, need_idle_in, need_idle_out, need_in, need_lab, need_new, need_none, need_open, need_out, need_place, need_room, need_slot};
+ghost use Rattle.lab_tasks.specs.Needs.{need_found, need_idle, need_idle_in, need_idle_out, need_in, need_lab, need_new, need_none, need_open, need_out, need_lab_and_name, need_room, need_slot};
 ghost use Rattle.lab_tasks.specs.JudgeSwap.{IsInIn, IsOutIn};
 ghost use Rattle.lab_tasks.specs.Mappings.{in_slot};
 ghost use Rattle.lab_tasks.specs.Tasks.{Task as AnyTask, CanDo, Gives, IsRefusedBy, Refuses};
@@ -80,9 +80,9 @@ fn need_new(state: &LabState, exp: Name) -> Result<(), Refusal>
 }
 
 /// A lab, and a name that is new in it.
-pub fn need_place(state: &LabState, exp: Name) -> Result<(), Refusal>
-    ensures place { OnOk result (need_place state.now.state exp ≡ Ok tt) }
-    ensures refuses { Refuses (need_place state.now.state exp) result }
+pub fn need_lab_and_name(state: &LabState, exp: Name) -> Result<(), Refusal>
+    ensures occupied { OnOk result (need_lab_and_name state.now.state exp ≡ Ok tt) }
+    ensures refuses { Refuses (need_lab_and_name state.now.state exp) result }
 {
     let _lab = need_lab(state)?;
     need_new(state, exp)
@@ -165,7 +165,7 @@ fn need_out(exp: Name, phase: &Phase) -> Result<(), Refusal>
 
 /// Where an experiment is that is in.
 fn need_in(exp: Name, phase: &Phase) -> Result<(&Mapping, &Tags), Refusal>
-    ensures inside { IfOk result (λ place. phase.now ≡ phases.In place.0.now place.1.now) }
+    ensures inside { IfOk result (λ occupied. phase.now ≡ phases.In occupied.0.now occupied.1.now) }
     ensures refuses { Refuses (need_in exp phase.now) result }
 {
     match phase {
@@ -180,7 +180,7 @@ pub fn need_idle_out<'a>(
     present: &Present<'a>,
     exp: Name,
 ) -> Result<(&'a Lab, &'a Experiment), Refusal>
-    ensures place { IfOk result (λ p. need_idle_out present.now.state.now.state (has_open present.now.swaps.now exp) exp ≡ Ok (p.0.now, p.1.now)) }
+    ensures occupied { IfOk result (λ p. need_idle_out present.now.state.now.state (has_open present.now.swaps.now exp) exp ≡ Ok (p.0.now, p.1.now)) }
     ensures found { IfOk result (λ p. find exp present.now.state.now.state.experiments ≡ Some p.1.now) }
     ensures out { IfOk result (λ p. IsOutIn present.now.state.now.state p.0.now p.1.now) }
     ensures refuses { Refuses (need_idle_out present.now.state.now.state (has_open present.now.swaps.now exp) exp) result }
@@ -197,7 +197,7 @@ pub fn need_idle_in<'a>(
     present: &Present<'a>,
     exp: Name,
 ) -> Result<(&'a Lab, &'a Experiment, &'a Mapping, &'a Tags), Refusal>
-    ensures place { IfOk result (λ p. need_idle_in present.now.state.now.state (has_open present.now.swaps.now exp) exp ≡ Ok (p.0.now, p.1.now)) }
+    ensures occupied { IfOk result (λ p. need_idle_in present.now.state.now.state (has_open present.now.swaps.now exp) exp ≡ Ok (p.0.now, p.1.now)) }
     ensures found { IfOk result (λ p. find exp present.now.state.now.state.experiments ≡ Some p.1.now) }
     ensures inside { IfOk result (λ p. IsInIn present.now.state.now.state p.0.now p.1.now p.2.now p.3.now) }
     ensures refuses { Refuses (need_idle_in present.now.state.now.state (has_open present.now.swaps.now exp) exp) result }

@@ -25,7 +25,7 @@ use virt_topo::Wiring;
 #[derive(Clone, Copy)]
 pub struct Span {
     pub from: u64,
-    /// It is the first moment behind it.
+    /// It is the first moment after it.
     pub to: u64,
 }
 
@@ -163,7 +163,7 @@ fn changed_wiring(
     requires text { IsSound text.now }
     requires now { IsSound now.now }
     requires limits { KeepsLimits event.now.what }
-    // the wiring behind it, where the link has its shape
+    // the wiring after it, where the link has its shape
     ensures applied { IfOk result (IsApplied event.now text.now now.now) }
     ensures shaped { OnOk result (need_shape exp text.now event.now now.now ≡ Ok tt) }
     ensures sound { IfOk result IsSound }

@@ -1,4 +1,4 @@
--- A command is answered, behind its mark.
+-- A command is answered, after its mark.
 use Rattle.std.proofs.Common.{◌≡◌, inl, inr, ℕ, Bool, true, List, Option, Some, None, Result, Ok, Err, refl, subst}
 use Rattle.std.specs.Prelude.{OnOk}
 use Rattle.lab_base.proofs.Tests.{some_weaker}

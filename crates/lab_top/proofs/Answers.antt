@@ -1,4 +1,4 @@
--- Answered experiments stay so; and the state behind an opening without trouble.
+-- Answered experiments stay so; and the state after an opening without trouble.
 use Rattle.std.specs.Prelude.{count_by}
 use Rattle.std.proofs.Common.{◌≡◌, ℕ, ◌^◌, Bool, true, false, List, [], ◌∷◌, ◌++◌, Option, Some, None, refl, sym, ◌∙◌, ap, subst}
 use Rattle.plant.specs.Events.{Event}
@@ -159,7 +159,7 @@ module _ (terms : Terms) (choices : Option Choices) (old new : Outside) (status 
       play_so (there_in last) (λ is exp. AreOthers exp middle → AreAll is (trace_after t.trace (before ++ b ∷ middle)) exp)
       (λ exp there. later is_in in_rests exp inner never there) (λ exp there. later is_out out_rests exp inner never there) exp (replies.Played name count ended closing blaming) tells
 
-  -- THE WIRING behind such a play
+  -- THE WIRING after such a play
   pub wired_told : (exp name text ended : List ℕ) (from until lines count : ℕ) (closing blaming : Bool) → b.piece.command ≡ Play exp from until lines text → reply ≡ replies.Played name count ended closing blaming → closing ≡ false
       → (s : LabState) × FirstLab (is_early b.piece) trace s × (mid : LabState) × BeginsAt b.piece.from s b.piece.opening mid
       × PlayWires (AreAllAs exp (trace_after t.trace (before ++ b ∷ [])) middle) mid exp from until text (replies.Played name count ended closing blaming)
@@ -219,7 +219,7 @@ opening_rests trace piece s mid at to none x y possible = (
   },
 )
 
--- AN EXPERIMENT WHOSE OWN SETTLING met no trouble is at rest in each image behind it, whatever became of the others
+-- AN EXPERIMENT WHOSE OWN SETTLING met no trouble is at rest in each image after it, whatever became of the others
 pub opening_rests_one : (trace : List Event) (piece : Piece) (s mid : LabState) (name : List ℕ) (to : OpensTo trace piece s mid) → EndedIn (swaps_of [] s.experiments) to.opens.outcomes name
     → (a b : List ℕ) → ArePossible (trace ++ piece.opening) a b → (u : LabState) × StandForLab a b u × IsAtRest u name
 opening_rests_one trace piece s mid name to ended a b possible = (mid, to.images a b possible, beside_rests (swaps_of [] s.experiments) to.opens.outcomes s mid to.opens.moving name to.opens.settles ended)

@@ -96,7 +96,7 @@ module _ (terms : Terms) (trace : List Event) (piece : Piece) (s last : LabState
   quiet_by = ⊎_elim (λ broke. inl (sym all_own ∙ broke.nothing))
       (λ x. ⊎_elim (λ none. inl (sym all_own ∙ none)) (λ one. inr (one.0, sym all_own ∙ one.1)) (quiet (trace ++ piece.opening) x.0 (opens_of piece.from) all ends x.1)) went
 
-  -- the report is of the lab and of the world behind it, which are those before it
+  -- the report is of the lab and of the world after it, which are those before it
   tells_by : (lines : List AuditLine) → reply ≡ replies.Audit lines → IsReport (world_of (trace ++ steps_of piece)) last lines × (piece.own ≡ [])
   tells_by lines is = ⊎_elim (λ broke. absurd (⊎_elim (λ a. cc (a, is)) (λ a. cc (a, is)) (broke_so piece.opening steps.told reply broke.breaks told_so.0)))
       (λ x.

@@ -171,7 +171,7 @@ module _ (terms : Terms) (trace : List Event) (command : Command) (mark : Faults
           let s = which_first sound (are_synced steps) refl in
           again_done steps a b o.no_outer there (o.sound sound) s.0 s.0 (subst (λ e. FirstLab e trace s.0) (sym early) s.1) s.2 (in_reading again_quiet refl))
 
-  -- IT BROKE OFF BEHIND READING, in a part that led to a lab
+  -- IT BROKE OFF AFTER READING, in a part that led to a lab
   module _ (readable : AsRead trace) (reading behind : List Event) (o : ReadSteps trace reading) (no_outer : has_outer behind ≡ false) (sound : IsSound the_texts trace → IsSound the_texts (trace ++ (reading ++ behind)))
       (start : LabState) (read : HasRead trace reading (2 ^ 32) start) (Part : List Event → LabState → Type 0) (part_of : (opening more : List Event) (after : LabState) → opening ≡ reading ++ more → Part more after → OpensInPart start opening after)
       (writes_of : (opening more : List Event) (after : LabState) (is : opening ≡ reading ++ more) (part : Part more after) → WritesInPart trace start opening after (part_of opening more after is part)) where
@@ -186,7 +186,7 @@ module _ (terms : Terms) (trace : List Event) (command : Command) (mark : Faults
     comes_so opening more lab is part s at =
         subst (λ u. HasCome trace opening u) (stood_once the_texts _ _ start s texts_once first_at at) (record { after = lab; part = part_of opening more lab is part; writes = writes_of opening more lab is part })
 
-    -- it stopped late enough, whatever stands behind
+    -- it stopped late enough, whatever stands after
     from_first : (opening more : List Event) (reply : Option Reply) → opening ≡ reading ++ more → FirstLab (is_early (of opening reply)) trace start
     from_first opening more reply is = subst (λ b. FirstLab b trace start) (sym (late_enough opening (ap are_synced is ∙ still_synced reading more read.synced))) first_at
 
@@ -240,8 +240,8 @@ module _ (terms : Terms) (trace : List Event) (command : Command) (mark : Faults
     abbrev all : List Event
     all = reading ++ behind
 
-    nothing_behind : behind ≡ [] → reading ≡ all
-    nothing_behind none = sym (append-nil reading) ∙ ap (λ l. reading ++ l) (sym none)
+    nothing_after : behind ≡ [] → reading ≡ all
+    nothing_after none = sym (append-nil reading) ∙ ap (λ l. reading ++ l) (sym none)
 
     pub nothing_outer : has_outer all ≡ false
     nothing_outer = shows is_outer all reading behind false false refl o.reads.no_outer o.no_outer
@@ -253,7 +253,7 @@ module _ (terms : Terms) (trace : List Event) (command : Command) (mark : Faults
     missed_in is = by (subst (λ f. OpenEnds trace reading behind (2 ^ 32) (Err f)) is o.ends)
       where
         by : OpenEnds trace reading behind (2 ^ 32) (Err openings.Plant) → has_miss all ≡ true
-        by (inl read) = ap has_miss (sym (nothing_behind read.0)) ∙ read.1
+        by (inl read) = ap has_miss (sym (nothing_after read.0)) ∙ read.1
         by (inr (inl settling)) = missed_behind settling.0
         by (inr (inr shifting)) = missed_behind shifting.0
 
@@ -304,7 +304,7 @@ module _ (terms : Terms) (trace : List Event) (command : Command) (mark : Faults
     cut_piece reply other breaks only then = by fault o.ends only
       where
         read_only : behind ≡ [] → IsPiece terms trace (of all reply)
-        read_only none = subst (λ l. IsPiece terms trace (of l reply)) (nothing_behind none) (read_cut readable reading o.reads reply other (subst (λ l. Breaks l reply) (sym (nothing_behind none)) breaks))
+        read_only none = subst (λ l. IsPiece terms trace (of l reply)) (nothing_after none) (read_cut readable reading o.reads reply other (subst (λ l. Breaks l reply) (sym (nothing_after none)) breaks))
 
         by : (f : OpenFault) → OpenEnds trace reading behind (2 ^ 32) (Err f) → (is_some reply ≡ true → f ≡ openings.Plant) → IsPiece terms trace (of all reply)
         by f (inl read) only = read_only read.0
@@ -326,7 +326,7 @@ module _ (terms : Terms) (trace : List Event) (command : Command) (mark : Faults
     where
       by : OpenEnds trace reading behind (2 ^ 32) (Err openings.Stopped) → IsPiece terms trace (of ((reading ++ behind) ++ Restarted a b ∷ []) (Some replies.Stopped))
       by (inl (none, read)) =
-          let same = nothing_behind reading behind openings.Stopped o readable none in
+          let same = nothing_after reading behind openings.Stopped o readable none in
           subst (λ l. IsPiece terms trace (of (l ++ Restarted a b ∷ []) (Some replies.Stopped))) same (read_again readable reading o.reads a b (subst (λ l. ArePossible (trace ++ l) a b) (sym same) there))
       by (inr (inl p)) = settling_again reading behind openings.Stopped o readable p a b there
       by (inr (inr p)) = shifting_again reading behind openings.Stopped o readable p a b there

@@ -61,7 +61,7 @@ pub are_first : (line number : ℕ) (lines : Lines) (commands : List Command) �
 are_first line number lines [] are = tt
 are_first line number lines (c ∷ commands) are = (are.0, are.1, are.2, are_first line are.0 are.1 commands are.3)
 
--- LINES THAT WERE TAKEN FROM THE START: what lies behind them, and how many they are
+-- LINES THAT WERE TAKEN FROM THE START: what lies after them, and how many they are
 module _ (bytes : List ℕ) (mid : Stand) (texts : List (List ℕ)) (p : Passed (at_start bytes) mid texts) where
   parted : (ahead : List ℕ) (left : Option (List ℕ)) → mid.rest ≡ prepend_known ahead left → (rest : List ℕ) × (bytes ≡ p.raw ++ ahead ++ rest) × (left ≡ Some rest)
   parted ahead left is =
@@ -161,7 +161,7 @@ module _ (bytes : List ℕ) (now : Stand) (commands : List Command) (cov : Cover
         ⊎_elim (λ e. inl (all AtEnd e)) (λ e. inr (subst (λ (n : ℕ). IsScript p.raw commands (BadLine (n + 1))) (its_size bytes u.mid texts p) (all (BadLine (u.mid.lines + 1)) e))) u.unfinished,
       )
 
--- BEHIND A COMMAND THAT WAS READ, where nothing further is read
+-- AFTER A COMMAND THAT WAS READ, where nothing further is read
 module _ (bytes : List ℕ) (now new : Stand) (commands made : List Command) (command : Command) (cov : Covers (at_start bytes) now commands) (read : Reads now (nexts.Command command) new) (ahead : List ℕ) (left : Option (List ℕ))
     (is : new.rest ≡ prepend_known ahead left) (few : length ahead ≤ 8193) where
   one_more : Covers (at_start bytes) new (commands ++ command ∷ [])

@@ -1,4 +1,4 @@
--- A journal behind an opening: whether it was moved onto its other side, and how long it is.
+-- A journal after an opening: whether it was moved onto its other side, and how long it is.
 use Rattle.std.proofs.Common.{◌≡◌, ◌⊎◌, inl, inr, ◌<◌, ◌≤◌, ℕ, ◌+◌, ◌-◌, ◌*◌, ◌^◌, false, List, ◌++◌, sym, ap, subst, ◌∙◌, append_assoc, arith}
 use Rattle.std.proofs.lemmas.Bool.{cases_lt}
 use Rattle.std.proofs.lemmas.List.{append-nil}
@@ -62,5 +62,5 @@ module _ (trace reading behind : List Event) (c : Control) (e : HasOpened trace 
         moved = λ was old live. let k = p.kept was old live in inr (ap other_side k.0, ap (λ n. n + 1) k.1, subst (λ l. IsPackedAt l c.lab) joined moved.packed);
       }
 
-  pub compact_behind : IsCompact trace (reading ++ behind) c.lab
-  compact_behind = by_move e.compacts
+  pub compact_after : IsCompact trace (reading ++ behind) c.lab
+  compact_after = by_move e.compacts

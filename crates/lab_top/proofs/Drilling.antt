@@ -30,7 +30,7 @@ use Rattle.lab_top.specs.declared.command.CommandFault.{CommandFault}
 use Rattle.lab_top.specs.declared.command.CommandFault.TheVariants as faults
 use Rattle.lab_top.specs.Answering.{Begins, Ends, HasSession, Moment, Plans, StandsAt, piece_of, held_first, held_of, reply_if, HandsLab}
 use Rattle.swap_turns.specs.Lengths.{appended}
-use Rattle.lab_top.specs.Pieces.{Finds, FirstLab, IsDone, IsPlannedBy, StepsFrom, WantsOnly, reading as in_reading, blames_if, closes_if, leaves_one, stays_open, with_drill_if, GoesFrom, Held, Piece, held_behind}
+use Rattle.lab_top.specs.Pieces.{Finds, FirstLab, IsDone, IsPlannedBy, StepsFrom, WantsOnly, reading as in_reading, blames_if, closes_if, leaves_one, stays_open, with_drill_if, GoesFrom, Held, Piece, held_after}
 use Rattle.lab_top.proofs.HandedOn.{ends_of}
 use Rattle.lab_top.proofs.Obeyed.{blames_none, later_same, map_both}
 use Rattle.lab_top.proofs.Stepping.{AsRead, ImagesAt, after_of, all_some, done_at, lab_length, not_early, standing_all, standing_lab, told_so}
@@ -130,7 +130,7 @@ goes_on_marked old mid controller from is goes =
     subst (λ plant. HasSession (record { plant = plant; controller = controller }) from) (sym is)
     (record { stands = stands_alike old (record old { told = with_mark old.told old.faults }) controller from (mark_alike old.told old.faults) refl goes.stands; runs = goes.runs })
 
--- the session behind a command that leaves it as it was, and has that reply or none
+-- the session after a command that leaves it as it was, and has that reply or none
 abbrev kept_by : Option Reply → Session → Session
 kept_by None from = Closed
 kept_by (Some reply) from = from
@@ -181,7 +181,7 @@ module _ (terms : Terms) (command : Command) (mark : Faults) (drill : Drill) (is
     }) possible;
   }
 
-  -- the session behind it is that before it, where it has a reply; and nothing is done
+  -- the session after it is that before it, where it has a reply; and nothing is done
   begun_idle : (result : Result Reply CommandFault) → Plans terms.takes drill old.told new result → (b : Begins terms command mark old.told new from (kept_by (reply_if result) from) (reply_if result)) × (b.own ≡ [])
   unfolding begun_with begun_silent
   begun_idle (Ok reply) (inl planned) =
@@ -255,8 +255,8 @@ held_kept None = tt
 held_kept (Some c) = refl
 
 -- no record is appended
-nothing_behind : (piece : Piece) (held : Held) → piece.own ≡ [] → held ≡ held_behind piece held held.lab
-nothing_behind piece held none =
+nothing_after : (piece : Piece) (held : Held) → piece.own ≡ [] → held ≡ held_after piece held held.lab
+nothing_after piece held none =
     let long : held.length ≡ held.length + appended piece.own = omega (arith, ap (λ l. appended l) none) in
     ap (λ (n : ℕ). let h : Held = record { lab = held.lab; length = n } in h) long
 
@@ -266,7 +266,7 @@ hands_drill terms command drill is told piece of none keeps old new same = recor
   after = (held_at old).lab;
   first = held_kept old;
   goes = subst (λ (d : Option Drill). GoesFrom d terms (with_more (trace_in told) piece.opening) piece (held_at old) (held_at old).lab) (sym (ap drill_of of ∙ is)) (refl, keeps);
-  last = subst (λ (k : Option Control). IfSome k (λ c. held_of c ≡ held_behind piece (held_at old) (held_at old).lab)) (sym same) (some_weaker old _ _ (λ c h. sym h ∙ nothing_behind piece (held_at old) none) (held_kept old));
+  last = subst (λ (k : Option Control). IfSome k (λ c. held_of c ≡ held_after piece (held_at old) (held_at old).lab)) (sym same) (some_weaker old _ _ (λ c h. sym h ∙ nothing_after piece (held_at old) none) (held_kept old));
 }
 
 pub ends_drill : (terms : Terms) (command : Command) (drill : Drill) → drill_of command ≡ Some drill → (old new : Moment) (result : Result Reply CommandFault) → Plans terms.takes drill old.plant.told new.plant.told result → new.plant.faults ≡ old.plant.faults → new.plant.stopped ≡ old.plant.stopped

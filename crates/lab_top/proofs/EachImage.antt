@@ -40,7 +40,7 @@ use Rattle.lab_words.specs.Words.{Choices}
 abbrev Carries : List Begun → LabState → LabState → Type 0
 Carries middle s u = (is : Phase → Bool) → Rests is → (exp : List ℕ) → AreOthers exp middle → IsThere is s exp → IsThere is u exp
 
--- ONE PIECE: each image behind it stands for a lab to which it leads from that of an image before it
+-- ONE PIECE: each image after it stands for a lab to which it leads from that of an image before it
 record IsLed (terms : Terms) (trace : List Event) (piece : Piece) (x y : List ℕ) : Type 0 where
   first : LabState
   image : IsLabOfImage trace first
@@ -68,7 +68,7 @@ module _ (terms : Terms) (trace : List Event) (piece : Piece) (readable : ArePos
       (λ settled f found. subst (λ (z : Experiment). is_moving z ≡ false) (same_Some e f (sym there.found ∙ found)) (rests e there.is_so)) led.steps.step in
       record { experiment = e; found = stays.same ∙ there.found; is_so = there.is_so }
 
--- BEHIND ONE, and behind all of them, from what holds of a lab before
+-- AFTER ONE, and after all of them, from what holds of a lab before
 record IsNext (Holds : LabState → Type 0) (command : Command) (u : LabState) : Type 0 where
   from : LabState
   holds : Holds from
@@ -105,7 +105,7 @@ module _ (terms : Terms) (choices : Option Choices) (old new : Outside) (status 
   here : ArePieces terms trace (b ∷ (middle ++ after)) × IsSound the_texts trace
   here = behind terms t.trace before (b ∷ (middle ++ after)) (pieces_of terms choices old new status (before ++ b ∷ (middle ++ after)) t r told) sound
 
-  -- by what the reply tells of the lab behind each such lab step
+  -- by what the reply tells of the lab after each such lab step
   module _ (command : Command) (asks : b.piece.command ≡ command) (Holds : LabState → Type 0)
       (tells : (set : Setting) (s : LabState) (own : List Event) (end : After) → end.reply ≡ Some reply → LabStep terms (Some trace) set s b.piece.from command b.piece.opening own end → Holds end.lab) where
     behind_it : InEach Holds (trace ++ steps_of b.piece)

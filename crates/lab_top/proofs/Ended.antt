@@ -30,7 +30,7 @@ use Rattle.lab_top.proofs.Answers.{all_stand}
 use Rattle.lab_top.proofs.Moving.{moves_first}
 use Rattle.lab_top.proofs.Pieces.{trace-push}
 use Rattle.lab_top.proofs.RunLaws.{done, pieces_of, told_of, traces_join}
-use Rattle.lab_top.proofs.TurnLaws.{all_few, few_open, handed_behind, pieces_behind, replied, sessions_join, stays_same}
+use Rattle.lab_top.proofs.TurnLaws.{all_few, few_open, handed_after, pieces_after, replied, sessions_join, stays_same}
 
 module _ (exp text : List ℕ) where
   abbrev pub GoesAt : List Event → Session → Type 0
@@ -140,10 +140,10 @@ module _ (terms : Terms) (choices : Option Choices) (old new : Outside) (status 
   whole = subst (λ l. Ran terms choices old new status l) (append_assoc before (b ∷ middle) (c ∷ after)) r
 
   are : ArePieces terms start (b ∷ (middle ++ c ∷ after))
-  are = pieces_behind terms t.trace before (b ∷ (middle ++ c ∷ after)) (pieces_of terms choices old new status (before ++ b ∷ (middle ++ c ∷ after)) t whole told)
+  are = pieces_after terms t.trace before (b ∷ (middle ++ c ∷ after)) (pieces_of terms choices old new status (before ++ b ∷ (middle ++ c ∷ after)) t whole told)
 
   handed : AreHandedOn (session_after Closed before) (b ∷ (middle ++ c ∷ after))
-  handed = handed_behind Closed before (b ∷ (middle ++ c ∷ after)) whole.sessions
+  handed = handed_after Closed before (b ∷ (middle ++ c ∷ after)) whole.sessions
 
   along : GoesAt exp text (trace_after start (b ∷ middle)) (session_after b.piece.to middle) × (is_some (open_at exp (opens_of (session_after b.piece.to middle))) ≡ true)
   along =
@@ -153,7 +153,7 @@ module _ (terms : Terms) (choices : Option Choices) (old new : Outside) (status 
       goes_along exp text terms (start ++ steps_of b.piece) b.piece.to middle (c ∷ after) are.1 handed.1 next.0 next.1 first.1 first.0 on
 
   from_is : c.piece.from ≡ session_after b.piece.to middle
-  from_is = (handed_behind Closed front (c ∷ after) r.sessions).0 ∙ sessions_join Closed before (b ∷ middle)
+  from_is = (handed_after Closed front (c ∷ after) r.sessions).0 ∙ sessions_join Closed before (b ∷ middle)
 
   goes_here : GoesAt exp text (trace_after t.trace front) c.piece.from
   goes_here = subst (λ x. GoesAt exp text (trace_after t.trace front) x) (sym from_is) (subst (λ l. GoesAt exp text l (session_after b.piece.to middle)) (sym (traces_join t.trace before (b ∷ middle))) along.0)

@@ -19,12 +19,12 @@ use Rattle.lab_core.specs.Tells.{AllMove, Hinders, IsFeasibleFor, TellsBroken, b
 use Rattle.lab_core.proofs.ListSteps.{about_not, all_leave, all_move, all_no_drill}
 use Rattle.lab_core.proofs.OpenLaws.{Leaves, names_differ, others_as_they_were, they_are_few}
 use Rattle.lab_core.proofs.SolutionLaws.{in_open}
-use Rattle.lab_top.specs.Pieces.{Piece, Begun, AreHandedOn, AreOthers, ButForReply, Counts, GoesFrom, Held, HandLabsOn, NotOpened, OwnStep, StayOpen, is_closed, held_behind, held_from, lab_behind, session_after, stays_open, steps_of, traces_after}
-use Rattle.lab_top.specs.Ran.{Outside, Ran, behind_in, from_in, held_in}
+use Rattle.lab_top.specs.Pieces.{Piece, Begun, AreHandedOn, AreOthers, ButForReply, Counts, GoesFrom, Held, HandLabsOn, NotOpened, OwnStep, StayOpen, is_closed, held_after, held_from, lab_behind, session_after, stays_open, steps_of, traces_after}
+use Rattle.lab_top.specs.Ran.{Outside, Ran, after_in, from_in, held_in}
 use Rattle.lab_top.specs.declared.status.Status.{Status}
 use Rattle.lab_words.specs.Words.{Choices}
 use Rattle.lab_top.proofs.RunLaws.{caused_at}
-use Rattle.lab_top.proofs.TurnLaws.{handed_behind, sessions_join}
+use Rattle.lab_top.proofs.TurnLaws.{handed_after, sessions_join}
 use Rattle.lab_core.proofs.OuterReplies.{of_drill_if}
 
 -- ONE PIECE
@@ -130,15 +130,15 @@ walk : (terms : Terms) (entry exit : Faults) (trace : Option (List Event)) (s en
 walk terms entry exit trace s end session [] after b labs counts handed h =
     record { goes = labs.3; holds = from_holds session b.piece.from s labs.0 handed.0 labs.2 h }
 walk terms entry exit trace s end session (x ∷ before) after b labs counts handed h =
-    walk terms x.later exit (with_more trace (steps_of x.piece)) (held_behind x.piece labs.0 labs.1) end x.piece.to before after b labs.4 counts.2 handed.1
+    walk terms x.later exit (with_more trace (steps_of x.piece)) (held_after x.piece labs.0 labs.1) end x.piece.to before after b labs.4 counts.2 handed.1
     (next_holds terms (with_more trace x.piece.opening) x.piece labs.0 labs.1 counts.1.shut labs.3 (from_holds session x.piece.from s labs.0 handed.0 labs.2 h))
 
--- behind some of them
+-- after some of them
 walk_after : (terms : Terms) (entry exit : Faults) (trace : Option (List Event)) (s end : Held) (session : Session) (before after : List Begun) → HandLabsOn terms trace s (before ++ after) end → Counts terms entry (before ++ after) exit
     → AreHandedOn session (before ++ after) → HoldsOf session s.lab → (u : LabState) × HoldsOf (session_after session before) u
 walk_after terms entry exit trace s end session [] after labs counts handed h = (s.lab, h)
 walk_after terms entry exit trace s end session (x ∷ before) after labs counts handed h =
-    walk_after terms x.later exit (with_more trace (steps_of x.piece)) (held_behind x.piece labs.0 labs.1) end x.piece.to before after labs.4 counts.2 handed.1
+    walk_after terms x.later exit (with_more trace (steps_of x.piece)) (held_after x.piece labs.0 labs.1) end x.piece.to before after labs.4 counts.2 handed.1
     (next_holds terms (with_more trace x.piece.opening) x.piece labs.0 labs.1 counts.1.shut labs.3 (from_holds session x.piece.from s labs.0 handed.0 labs.2 h))
 
 -- an open swap of another name
@@ -146,12 +146,12 @@ swaps_ever : (terms : Terms) (entry exit : Faults) (trace : Option (List Event))
     → AreHandedOn session (middle ++ after) → StayOpen middle → AreOthers name middle → open_at name (opens_of (session_after session middle)) ≡ open_at name (opens_of session)
 swaps_ever terms entry exit trace s end session [] after name labs counts handed open_now others = refl
 swaps_ever terms entry exit trace s end session (b ∷ middle) after name labs counts handed open_now others =
-    swaps_ever terms b.later exit (with_more trace (steps_of b.piece)) (held_behind b.piece labs.0 labs.1) end b.piece.to middle after name labs.4 counts.2 handed.1 open_now.1 others.1
+    swaps_ever terms b.later exit (with_more trace (steps_of b.piece)) (held_after b.piece labs.0 labs.1) end b.piece.to middle after name labs.4 counts.2 handed.1 open_now.1 others.1
     ∙ swap_stays_ever terms (with_more trace b.piece.opening) b.piece labs.0 labs.1 counts.1.shut labs.3 open_now.0 name others.0 ∙ ap (λ s. open_at name (opens_of s)) handed.0
 
-labs_behind : (terms : Terms) (trace : Option (List Event)) (s end : Held) (before rest : List Begun) → HandLabsOn terms trace s (before ++ rest) end → (t : Option (List Event)) × (u : Held) × HandLabsOn terms t u rest end
-labs_behind terms trace s end [] rest labs = (trace, s, labs)
-labs_behind terms trace s end (b ∷ before) rest labs = labs_behind terms (with_more trace (steps_of b.piece)) (held_behind b.piece labs.0 labs.1) end before rest labs.4
+labs_after : (terms : Terms) (trace : Option (List Event)) (s end : Held) (before rest : List Begun) → HandLabsOn terms trace s (before ++ rest) end → (t : Option (List Event)) × (u : Held) × HandLabsOn terms t u rest end
+labs_after terms trace s end [] rest labs = (trace, s, labs)
+labs_after terms trace s end (b ∷ before) rest labs = labs_after terms (with_more trace (steps_of b.piece)) (held_after b.piece labs.0 labs.1) end before rest labs.4
 
 counts_behind : (terms : Terms) (entry exit : Faults) (before rest : List Begun) → Counts terms entry (before ++ rest) exit → (mid : Faults) × Counts terms mid rest exit
 counts_behind terms entry exit [] rest counts = (entry, counts)
@@ -159,7 +159,7 @@ counts_behind terms entry exit (b ∷ before) rest counts = counts_behind terms 
 
 -- IN A RUN
 module _ (terms : Terms) (choices : Option Choices) (old new : Outside) (status : Status) where
-  pub at_one : (before after : List Begun) (b : Begun) (r : Ran terms choices old new status (before ++ b ∷ after)) → At terms (traces_after (trace_in old.plant.told) before) b (held_in before after b r) (behind_in before after b r)
+  pub at_one : (before after : List Begun) (b : Begun) (r : Ran terms choices old new status (before ++ b ∷ after)) → At terms (traces_after (trace_in old.plant.told) before) b (held_in before after b r) (after_in before after b r)
   at_one before after b r = walk terms _ _ _ r.labs.0 r.labs.1 Closed before after b r.labs.2 r.counts r.sessions (closed_holds Closed r.labs.0.lab refl)
 
   pub few_ever : (before after : List Begun) → Ran terms choices old new status (before ++ after) → (length (opens_of (session_after Closed before)) ≤ 16) × AllDiffer (busy_of (session_after Closed before))
@@ -168,10 +168,10 @@ module _ (terms : Terms) (choices : Option Choices) (old new : Outside) (status 
   pub kept_ever : (before middle after : List Begun) (name : List ℕ) → Ran terms choices old new status (before ++ (middle ++ after)) → StayOpen middle → AreOthers name middle
       → open_at name (opens_of (session_after Closed (before ++ middle))) ≡ open_at name (opens_of (session_after Closed before))
   kept_ever before middle after name r open_now others =
-      let l = labs_behind terms _ r.labs.0 r.labs.1 before (middle ++ after) r.labs.2 in
+      let l = labs_after terms _ r.labs.0 r.labs.1 before (middle ++ after) r.labs.2 in
       let n = counts_behind terms _ _ before (middle ++ after) r.counts in
       ap (λ s. open_at name (opens_of s)) (sessions_join Closed before middle)
-      ∙ swaps_ever terms n.0 _ l.0 l.1 r.labs.1 (session_after Closed before) middle after name l.2 n.1 (handed_behind Closed before (middle ++ after) r.sessions) open_now others
+      ∙ swaps_ever terms n.0 _ l.0 l.1 r.labs.1 (session_after Closed before) middle after name l.2 n.1 (handed_after Closed before (middle ++ after) r.sessions) open_now others
 
   module _ (before after : List Begun) (b : Begun) (r : Ran terms choices old new status (before ++ b ∷ after)) (no_drill : drill_of b.piece.command ≡ None) where
     abbrev at : Held
@@ -181,7 +181,7 @@ module _ (terms : Terms) (choices : Option Choices) (old new : Outside) (status 
     mid = from_in before after b r
 
     abbrev last : LabState
-    last = behind_in before after b r
+    last = after_in before after b r
 
     abbrev trace : Option (List Event)
     trace = with_more (traces_after (trace_in old.plant.told) before) b.piece.opening

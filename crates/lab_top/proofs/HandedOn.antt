@@ -33,7 +33,7 @@ use Rattle.lab_top.specs.declared.command.CommandFault.TheVariants as command_fa
 use Rattle.lab_core.proofs.OuterSteps.{no_start}
 use Rattle.swap_turns.specs.Pieces.{has_command}
 use Rattle.swap_turns.proofs.Stood.{stood_alike}
-use Rattle.lab_top.specs.Pieces.{Finds, FindsNone, IsPiece, IsPlannedBy, Later, WantsBehind, WantsOnly, behind as goes_behind, reading as in_reading, settling as in_settling, blames_if, blames_now_if, closes_if, is_closed, leaves_one, may_shut, opened, stays_open, GoesFrom, OwnStep, held_behind}
+use Rattle.lab_top.specs.Pieces.{Finds, FindsNone, IsPiece, IsPlannedBy, Later, WantsAfter, WantsOnly, behind as goes_after, reading as in_reading, settling as in_settling, blames_if, blames_now_if, closes_if, is_closed, leaves_one, may_shut, opened, stays_open, GoesFrom, OwnStep, held_after}
 use Rattle.lab_top.specs.Answering.{Does, DoesOwn, FoundNone, HasSession, IsMarkAt, IsOpen, Makes, MayGoOn, MayOpen, StandsAt, Starts, Unopened, Begins, Made, Ends, Moment, held_first, held_of, piece_of, reply_if, HandsLab}
 use Rattle.lab_top.proofs.BrokenOpenings.{again_piece, cut_piece, missed_in, nothing_outer}
 use Rattle.lab_top.proofs.Stepping.{AsRead, standing_lab, was_open, is_opened, has_led}
@@ -121,7 +121,7 @@ module _ (terms : Terms) (command : Command) (no_drill : drill_of command ≡ No
     first = tt;
     goes = subst (λ (drill : Option Drill). GoesFrom drill terms (with_more (trace_in plant.told) begun.opening) (piece_of command plant.faults Closed Closed begun.opening begun.own reply) held_first at_first) (sym no_drill)
         (inr (record { closed = refl; nothing = none; shut = refl; tells = tells }));
-    last = none_there new.plant new.controller (λ c. held_of c ≡ held_behind (piece_of command plant.faults Closed Closed begun.opening begun.own reply) held_first at_first) goes_on.stands;
+    last = none_there new.plant new.controller (λ c. held_of c ≡ held_after (piece_of command plant.faults Closed Closed begun.opening begun.own reply) held_first at_first) goes_on.stands;
   }
 
   abbrev made : (reply : Option Reply) (begun : Begins terms command plant.faults plant.told new.plant.told Closed Closed reply) → (closes_if reply ≡ true → Rose plant.faults.disk new.plant.faults.disk) → blames_if reply ≡ false → (is_some reply ≡ true → new.plant.stopped ≡ false)
@@ -263,10 +263,10 @@ ends_open terms command no_drill old new c result from is goes makes later disk 
           (inl (subst (λ t. OwnStep terms t (piece_of command old.plant.faults (Open s.0) m.to [] m.own.0 (reply_if result)) (held_of c) m.own.3.0) (sym (with_more-nil (trace_in old.plant.told))) m.own.3.1));
       last = m.held;
     }) m.closed later disk m.device m.here m.opened runs memory (λ some. m.goes_on)
-    (λ none going. map_both old.plant.told (λ t stands own. goes_behind c.lab c.lab (length_of c.journal) (standing_lab t.trace c stands) refl
+    (λ none going. map_both old.plant.told (λ t stands own. goes_after c.lab c.lab (length_of c.journal) (standing_lab t.trace c stands) refl
     (subst (λ l. IsLengthAt l (length_of c.journal)) (sym (append-nil t.trace)) (standing_length t.trace c stands))
-    (subst (λ l. WantsBehind terms.rule command l (record { length = length_of c.journal; limit = 2 ^ 32; devices = old.plant.faults.devices }) c.lab s.0 m.own.0) (sym (append-nil t.trace))
-    (subst (λ n. WantsBehind terms.rule command t.trace (record { length = length_of c.journal; limit = n; devices = old.plant.faults.devices }) c.lab s.0 m.own.0) s.2.limit own))) s.2.works.working.work.stands (m.wants none going)))
+    (subst (λ l. WantsAfter terms.rule command l (record { length = length_of c.journal; limit = 2 ^ 32; devices = old.plant.faults.devices }) c.lab s.0 m.own.0) (sym (append-nil t.trace))
+    (subst (λ n. WantsAfter terms.rule command t.trace (record { length = length_of c.journal; limit = n; devices = old.plant.faults.devices }) c.lab s.0 m.own.0) s.2.limit own))) s.2.works.working.work.stands (m.wants none going)))
 
 -- or was opened for it
 pub ends_opened : (terms : Terms) (command : Command) → drill_of command ≡ None → (old new : Moment) (mid : Seen) (c : Control) (result : Result Reply CommandFault) (from : Session) → old.controller ≡ None → HasSession old from → OpenTold old.plant.told mid.told (2 ^ 32) (Ok c)
@@ -290,6 +290,6 @@ ends_opened terms command no_drill old new mid c result from is goes told there 
     }) m.closed later disk m.device (λ blamed. omega (arith, passed.devices, m.here blamed)) m.opened runs memory (λ some. m.goes_on)
     (λ none going. map_three old.plant.told (λ t o readable both.
     let w = is_opened t.trace told.0 told.1 c o both.0 limit readable in
-    goes_behind w.start c.lab (length_of c.journal) w.first (w.opens refl) (standing_length (t.trace ++ (told.0 ++ told.1)) c both.0) both.1) told.3 there
-    (carried old.plant.told mid.told (told.0 ++ told.1) told.2 (λ l. Stands the_texts l c.journal c.lab × WantsBehind terms.rule command l (record { length = length_of c.journal; limit = 2 ^ 32; devices = old.plant.faults.devices }) c.lab [] m.own.0)
-    (map_both mid.told (λ t stands own. (stands, subst (λ n. WantsBehind terms.rule command t.trace (record { length = length_of c.journal; limit = n; devices = old.plant.faults.devices }) c.lab [] m.own.0) limit own)) works.working.work.stands (m.wants none going)))))
+    goes_after w.start c.lab (length_of c.journal) w.first (w.opens refl) (standing_length (t.trace ++ (told.0 ++ told.1)) c both.0) both.1) told.3 there
+    (carried old.plant.told mid.told (told.0 ++ told.1) told.2 (λ l. Stands the_texts l c.journal c.lab × WantsAfter terms.rule command l (record { length = length_of c.journal; limit = 2 ^ 32; devices = old.plant.faults.devices }) c.lab [] m.own.0)
+    (map_both mid.told (λ t stands own. (stands, subst (λ n. WantsAfter terms.rule command t.trace (record { length = length_of c.journal; limit = n; devices = old.plant.faults.devices }) c.lab [] m.own.0) limit own)) works.working.work.stands (m.wants none going)))))

@@ -33,14 +33,14 @@ at_each IsAsHad part trace sound n within a b possible =
 
 -- WHAT A PLANT TELLS after pieces: its trace goes on
 module _ (Q : Told → Type 0) where
-  behind_drill : (t : Told) (drill : Option Drill) (begun : List Begun) → ((u : Told) → u.trace ≡ t.trace → (v : Told) × (with_pieces (Some u) begun ≡ Some v) × (v.trace ≡ trace_after u.trace begun))
+  after_drill : (t : Told) (drill : Option Drill) (begun : List Begun) → ((u : Told) → u.trace ≡ t.trace → (v : Told) × (with_pieces (Some u) begun ≡ Some v) × (v.trace ≡ trace_after u.trace begun))
       → (v : Told) × (with_pieces (with_drill_if (Some t) drill) begun ≡ Some v) × (v.trace ≡ trace_after t.trace begun)
-  behind_drill t None begun to = to t refl
-  behind_drill t (Some drill) begun to = to _ refl
+  after_drill t None begun to = to t refl
+  after_drill t (Some drill) begun to = to _ refl
 
 still_told : (t : Told) (begun : List Begun) → (v : Told) × (with_pieces (Some t) begun ≡ Some v) × (v.trace ≡ trace_after t.trace begun)
 still_told t [] = (t, refl, refl)
-still_told t (b ∷ begun) = behind_drill (λ u. Unit {0}) (record { trace = t.trace ++ steps_of b.piece; marks = t.marks ++ record { at = length t.trace; faults = b.piece.faults } ∷ []; drills = t.drills }) (planned_of b) begun (λ u same. still_told u begun)
+still_told t (b ∷ begun) = after_drill (λ u. Unit {0}) (record { trace = t.trace ++ steps_of b.piece; marks = t.marks ++ record { at = length t.trace; faults = b.piece.faults } ∷ []; drills = t.drills }) (planned_of b) begun (λ u same. still_told u begun)
 
 -- its trace begins with that of before
 grown : (trace : List Event) (begun : List Begun) → (steps : List Event) × (trace_after trace begun ≡ trace ++ steps)

@@ -15,7 +15,7 @@ pub mod Pieces
 pub mod RunLaws
 pub mod Scripts
 mod Stepping
-mod Tellings
+mod RepliesTaken
 pub mod TurnLaws
 mod Wording
 mod EachImage

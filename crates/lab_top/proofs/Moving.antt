@@ -24,7 +24,7 @@ use Rattle.lab_top.specs.Ran.{Outside, Ran}
 use Rattle.lab_words.specs.Words.{Choices}
 use Rattle.lab_top.specs.declared.status.Status.{Status}
 use Rattle.lab_top.proofs.RunLaws.{done, first_sane, pieces_of, told_of}
-use Rattle.lab_top.proofs.TurnLaws.{all_few, handed_behind, replied}
+use Rattle.lab_top.proofs.TurnLaws.{all_few, handed_after, replied}
 
 -- at a moment, whatever lab the sides stand for
 abbrev pub MoveAt : List Event → Session → Type 0
@@ -102,4 +102,4 @@ pub moves_first : (terms : Terms) (choices : Option Choices) (old new : Outside)
     (sound : IsSound the_texts t.trace) → AllMove (opens_of b.piece.from) (done terms choices old new status before after b t r told sound).leads.first
 moves_first terms choices old new status before after b t r told sound =
     first_moves terms (trace_after t.trace before) b.piece (done terms choices old new status before after b t r told sound).leads
-    (subst (λ x. MoveAt (trace_after t.trace before) x) (sym (handed_behind Closed before (b ∷ after) r.sessions).0) (moves_at terms choices old new status before (b ∷ after) t r told))
+    (subst (λ x. MoveAt (trace_after t.trace before) x) (sym (handed_after Closed before (b ∷ after) r.sessions).0) (moves_at terms choices old new status before (b ∷ after) t r told))

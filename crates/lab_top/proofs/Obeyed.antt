@@ -35,10 +35,10 @@ use Rattle.lab_judge.proofs.Fits.{fits}
 use Rattle.lab_core.proofs.Obey.{now_blames, in_trace}
 use Rattle.lab_core.proofs.Wanting.{command_wants, plain_wants}
 use Rattle.swap_turns.specs.Lengths.{appended}
-use Rattle.lab_top.specs.Pieces.{Later, WantsBehind, blames_if, blames_now_if, leaves_one, may_shut, opened, stays_open, Held, OwnStep, ButForReply}
+use Rattle.lab_top.specs.Pieces.{Later, WantsAfter, blames_if, blames_now_if, leaves_one, may_shut, opened, stays_open, Held, OwnStep, ButForReply}
 use Rattle.lab_top.specs.Answering.{Does, HasSession, IsOpen, Makes, OwnTold, Starts, WasOpened, held_of, piece_of, reply_if, DoesEver}
 use Rattle.lab_top.proofs.Stepping.{AsRead, own_answered, own_closed, own_stopped, own_stays, own_unmade, after_of, told_so}
-use Rattle.lab_core.specs.Moments.{trace_in, with_more, IsLengthAt, IsLengthBehind}
+use Rattle.lab_core.specs.Moments.{trace_in, with_more, IsLengthAt, IsLengthAfter}
 use Rattle.lab_core.proofs.Composing.{works_length}
 use Rattle.lab_core.specs.Commands.{DoesCommand, LabStep}
 use Rattle.records_model.specs.Labs.{LabState}
@@ -122,7 +122,7 @@ if_traced : (told : Option Told) (P : Option (List Event) → Type 0) → P (tra
 if_traced None P h = tt
 if_traced (Some t) P h = h
 
--- a reply behind which the session stays open
+-- a reply after which the session stays open
 stays_so : (reply : Reply) → closes reply ≡ false → (reply ≡ replies.Stopped → ⊥) → stays_open (Some reply) ≡ true
 stays_so replies.Stopped goes other = absurd (other refl)
 stays_so reply goes other = ap not goes
@@ -159,7 +159,7 @@ module _ (terms : Terms) (mark : Faults) (old mid : Seen) (command : Command) (n
   abbrev Ever : List Event → Session → Option Reply → Type 0
   Ever own to reply = DoesEver terms trace command mark c swaps own to reply
 
-  length_here : IsLengthBehind trace [] (2 ^ 32) (length_of c.journal)
+  length_here : IsLengthAfter trace [] (2 ^ 32) (length_of c.journal)
   length_here = record {
     told = in_trace old.told (λ t. IsLengthAt (t ++ []) (length_of c.journal)) (some_weaker old.told _ _ (λ t n. subst (λ l. IsLengthAt l (length_of c.journal)) (sym (append-nil t.trace)) n) (works_length old c swaps is.works));
     within = omega (arith, is.works.working.work.room.few, is.limit);
@@ -184,7 +184,7 @@ module _ (terms : Terms) (mark : Faults) (old mid : Seen) (command : Command) (n
     },
   )
 
-  -- by what holds of each trace that is an opening behind another one
+  -- by what holds of each trace that is an opening after another one
   own_by : (result : Result Reply CoreFault) (at : At result) (new : Option Told) (more : List Event) (session : Session) (reply : Option Reply) → new ≡ with_steps mid.told more → (Then : List Event → Type 0) → IfSome mid.told (λ t. Then t.trace)
       → Does_so Then at.to result at.obeys.0 (at.obeys.0 ++ more) session reply → Ever (at.obeys.0 ++ more) session reply → OwnTold terms old.told new command mark c swaps session reply
   own_by result at new more session reply is Then then does it =
@@ -195,7 +195,7 @@ module _ (terms : Terms) (mark : Faults) (old mid : Seen) (command : Command) (n
         it,
       )
 
-  -- with no step behind
+  -- with no step after
   own_alone : (result : Result Reply CoreFault) (at : At result) (session : Session) (reply : Option Reply) → (Then : List Event → Type 0) → IfSome mid.told (λ t. Then t.trace) → Does_so Then at.to result at.obeys.0 at.obeys.0 session reply
       → Ever (at.obeys.0 ++ []) session reply → OwnTold terms old.told mid.told command mark c swaps session reply
   own_alone result at session reply Then then does it =
@@ -203,7 +203,7 @@ module _ (terms : Terms) (mark : Faults) (old mid : Seen) (command : Command) (n
       (λ before from opening w obeys here. subst (λ l. Does terms before (piece_of command mark from session opening l reply)) (sym (append-nil at.obeys.0)) (does before from opening w obeys here))
       it
 
-  -- its steps, with no step behind
+  -- its steps, with no step after
   as_are : (own : List Event) → own ≡ (own ++ []) ++ []
   as_are own = sym (append-nil (own ++ []) ∙ append-nil own)
 
@@ -304,14 +304,14 @@ module _ (terms : Terms) (mark : Faults) (old mid : Seen) (command : Command) (n
     here = λ blamed. absurd (cc blamed);
     opened = opened_none (name_of command) None swaps mark.devices;
     goes_on = goes_closed mid;
-    wants = λ none runs. some_weaker old.told _ _ (λ t o. subst (WantsBehind terms.rule command t.trace here_ground c.lab swaps) (sym (append-nil at.obeys.0)) (by t.trace at.obeys.0 command refl o.ends)) (told_steps (Err faults.Memory) at);
+    wants = λ none runs. some_weaker old.told _ _ (λ t o. subst (WantsAfter terms.rule command t.trace here_ground c.lab swaps) (sym (append-nil at.obeys.0)) (by t.trace at.obeys.0 command refl o.ends)) (told_steps (Err faults.Memory) at);
   }
     where
-      plain : (trace own : List Event) (asked : Command) → WantsIn (JudgedBeside terms.rule asked swaps c.lab) (start_of mark.devices c swaps) own d.lab at.to → WantsBehind terms.rule asked trace here_ground c.lab swaps own
+      plain : (trace own : List Event) (asked : Command) → WantsIn (JudgedBeside terms.rule asked swaps c.lab) (start_of mark.devices c swaps) own d.lab at.to → WantsAfter terms.rule asked trace here_ground c.lab swaps own
       plain trace own asked (undone nothing lab_is to_is) = inl nothing
       plain trace own asked (between judged first to_is) = inr (inl (fits c.lab (is_among (names_of swaps) (name_of asked)) (length swaps) terms.rule asked (Ok Recover) judged, (d.lab, first)))
 
-      by : (trace own : List Event) (asked : Command) → command ≡ asked → wants_of_command terms.rule asked mark.devices c swaps (Some trace) own d.lab at.to → WantsBehind terms.rule asked trace here_ground c.lab swaps own
+      by : (trace own : List Event) (asked : Command) → command ≡ asked → wants_of_command terms.rule asked mark.devices c swaps (Some trace) own d.lab at.to → WantsAfter terms.rule asked trace here_ground c.lab swaps own
       by trace own (commands.Play exp from until lines text) is (nothing_played nothing lab_is to_is) = inl nothing
       by trace own (commands.Play exp from until lines text) is (playing start place judged past) = inr (inr (start, place, judged, (d.lab, at.to, past)))
       by trace own (commands.Batch moment lines text) is (nothing_played nothing lab_is to_is) = inl nothing

@@ -30,7 +30,7 @@ use Rattle.lab_top.specs.declared.command.CommandFault.TheVariants as faults
 use Rattle.lab_top.specs.declared.status.Status.TheVariants as statuses
 use Rattle.lab_top.specs.declared.status.Status.{Status}
 use Rattle.lab_top.specs.Answering.{Moment, HasSession, Made, Answered, marked, held_first, held_of, piece_of, StandsAt}
-use Rattle.lab_top.specs.Pieces.{Begun, steps_of, commands_of, planned_of, trace_after, traces_after, with_drill_if, with_piece, with_pieces, IsCaused, Counts, FindsNone, IsPiece, AreHandedOn, ArePieces, reply_text, reply_texts, session_after, WantsOnly, GoesFrom, Held, HandLabsOn, held_behind, is_closed}
+use Rattle.lab_top.specs.Pieces.{Begun, steps_of, commands_of, planned_of, trace_after, traces_after, with_drill_if, with_piece, with_pieces, IsCaused, Counts, FindsNone, IsPiece, AreHandedOn, ArePieces, reply_text, reply_texts, session_after, WantsOnly, GoesFrom, Held, HandLabsOn, held_after, is_closed}
 use Rattle.lab_top.specs.Ran.{AreAnswered, BegunCommands, EndsSo, GoesOn, LastFindsNone, LastIsNot, Outside, Ran, WroteReplies, Answered as StatusAnswered}
 use Rattle.lab_words.specs.Words.{Choices, Usual}
 use Rattle.lab_top.proofs.Obeyed.{goes_closed, map_both, map_three, trace_steps}
@@ -139,10 +139,10 @@ traced told (b ∷ begun) =
     (traced_drill (with_steps (with_mark told b.piece.faults) (steps_of b.piece)) (planned_of b) ∙ trace_steps (with_mark told b.piece.faults) (steps_of b.piece) ∙ ap (λ (o : Option (List Event)). with_more o (steps_of b.piece)) (traced_mark told b.piece.faults))
 
 labs-push : (terms : Terms) (trace : Option (List Event)) (first last : Held) (begun : List Begun) (b : Begun) → HandLabsOn terms trace first begun last → (at : Held) (after : LabState) → (is_closed b.piece.from ≡ false → at ≡ last)
-    → GoesFrom (drill_of b.piece.command) terms (with_more (traces_after trace begun) b.piece.opening) b.piece at after → HandLabsOn terms trace first (begun ++ b ∷ []) (held_behind b.piece at after)
+    → GoesFrom (drill_of b.piece.command) terms (with_more (traces_after trace begun) b.piece.opening) b.piece at after → HandLabsOn terms trace first (begun ++ b ∷ []) (held_after b.piece at after)
 labs-push terms trace first last [] b is at after from goes = (at, after, λ open_now. from open_now ∙ is, goes, refl)
 labs-push terms trace first last (x ∷ begun) b are at after from goes =
-    (are.0, are.1, are.2, are.3, labs-push terms (with_more trace (steps_of x.piece)) (held_behind x.piece are.0 are.1) last begun b are.4 at after from goes)
+    (are.0, are.1, are.2, are.3, labs-push terms (with_more trace (steps_of x.piece)) (held_after x.piece are.0 are.1) last begun b are.4 at after from goes)
 
 -- where the session is open, its lab and the length of its journal are those of the controller
 held_there : (plant : Seen) (k : Option Control) (from : Session) (at last : Held) → StandsAt plant k from → IfSome k (λ c. at ≡ held_of c) → IfSome k (λ c. held_of c ≡ last) → is_closed from ≡ false → at ≡ last
@@ -182,7 +182,7 @@ module _ (terms : Terms) (start before now : Moment) (begun : List Begun) (so : 
     sessions = sessions-push Closed begun next so.sessions refl;
     are = map_both start.plant.told (λ t are is. pieces-push terms t.trace begun next are is) so.are (at_mark (λ l. IsPiece terms l next.piece) made.begun.is_piece);
     first = so.first;
-    last = held_behind next.piece made.labs.at made.labs.after;
+    last = held_after next.piece made.labs.at made.labs.after;
     labs =
         labs-push terms (trace_in start.plant.told) so.first so.last begun next so.labs made.labs.at made.labs.after
         (held_there before.plant before.controller (session_after Closed begun) made.labs.at so.last stands made.labs.first held)
@@ -190,7 +190,7 @@ module _ (terms : Terms) (start before now : Moment) (begun : List Begun) (so : 
         (traced_mark before.plant.told before.plant.faults ∙ ap trace_in so.told ∙ traced start.plant.told begun) made.labs.goes);
   }
 
--- THE RUN SO FAR: all commands that were begun are answered, and the session behind them stands
+-- THE RUN SO FAR: all commands that were begun are answered, and the session after them stands
 pub record Going (terms : Terms) (start now : Moment) (first written : Option (List ℕ)) (begun : List Begun) : Type 0 where
   pub so : PiecesSoFar terms start now begun
   pub goes_on : HasSession now (session_after Closed begun)
@@ -263,7 +263,7 @@ module _ (terms : Terms) (start before now : Moment) (first old new : Option (Li
     so_now : PiecesSoFar terms start now (begun ++ one ∷ [])
     so_now = one_more terms start before now begun going.so command to reply made going.goes_on.stands going.held
 
-    last_now : so_now.last ≡ held_behind one.piece made.labs.at made.labs.after
+    last_now : so_now.last ≡ held_after one.piece made.labs.at made.labs.after
     unfolding so_now one_more
     last_now = refl
 

@@ -65,7 +65,7 @@ pub caused_at : (terms : Terms) (entry exit : Faults) (before after : List Begun
 caused_at terms entry exit [] after b counts = counts.1
 caused_at terms entry exit (x ∷ before) after b counts = caused_at terms x.later exit before after b counts.2
 
--- the pieces behind the first of them
+-- the pieces after the first of them
 pub behind : (terms : Terms) (trace : List Event) (before rest : List Begun) → ArePieces terms trace (before ++ rest) → IsSound the_texts trace → ArePieces terms (trace_after trace before) rest × IsSound the_texts (trace_after trace before)
 behind terms trace [] rest are sound = (are, sound)
 behind terms trace (b ∷ before) rest are sound = behind terms (trace ++ steps_of b.piece) before rest are.1 (are.0.done sound).sound

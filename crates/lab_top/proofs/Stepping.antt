@@ -44,7 +44,7 @@ use Rattle.lab_core.proofs.OuterSteps.{no_start}
 use Rattle.lab_core.proofs.Composing.{standing_length}
 use Rattle.lab_top.specs.Pieces.{Piece, ButForReply, HasLed, HasOpened, IsDone, MovesDue, OpensTo, StepsFrom, FirstLab, ImagesAfter, is_closed, is_early, leaves_one, steps_of}
 use Rattle.lab_top.specs.Answering.{Does, WasOpened, piece_of}
-use Rattle.lab_top.proofs.Compact.{compact_behind, compacted_quiet}
+use Rattle.lab_top.proofs.Compact.{compact_after, compacted_quiet}
 
 abbrev pub AsRead : List Event → Type 0
 AsRead trace = ArePossible trace (disk A trace).reads (disk B trace).reads
@@ -131,7 +131,7 @@ module _ (terms : Terms) (trace : List Event) (command : Command) (mark : Faults
         sound = done.sound;
       }
 
--- A PIECE IS DONE, over the trace as it is behind it
+-- A PIECE IS DONE, over the trace as it is after it
 module _ (terms : Terms) (trace : List Event) (piece : Piece) where
   abbrev pub ImagesAt : Bool → List Event → LabState → Type 0
   ImagesAt true now last = AllStandFor now last
@@ -201,15 +201,15 @@ module _ (terms : Terms) (mark : Faults) (before : List Event) (from : Session) 
   from_there : IsLabOfImage before w.start
   from_there = record { a = (disk A before).reads; b = (disk B before).reads; possible = w.readable; stand = w.first }
 
-  -- behind its steps, over any trace and over a sound one
-  done_behind : (own : List Event) (to : Session) (reply : Option Reply) (now : List Event) → before ++ (opening ++ own) ≡ now → (lab : LabState) → Steps own to reply lab → IsSound the_texts now → IsLabAt now lab
+  -- after its steps, over any trace and over a sound one
+  done_after : (own : List Event) (to : Session) (reply : Option Reply) (now : List Event) → before ++ (opening ++ own) ≡ now → (lab : LabState) → Steps own to reply lab → IsSound the_texts now → IsLabAt now lab
       → ImagesAt terms before (of own to reply) (leaves_one to reply) now lab → IsSound the_texts before → IsDone terms before (of own to reply)
-  done_behind own to reply now is lab steps sound at images first =
+  done_after own to reply now is lab steps sound at images first =
       done_at terms before (of own to reply) now is w.start lab first_lab steps (λ opens. (c.lab, record { opens = w.opens opens.closed; images = standing_all (before ++ opening) c w.stands; sound = w.sound first })) sound at images
 
-  does_behind : (own : List Event) (to : Session) (reply : Option Reply) (lab : LabState) → Steps own to reply lab → (is_closed to ≡ false → IsLabAt (before ++ (opening ++ own)) lab) → (IsSound the_texts before → IsDone terms before (of own to reply))
+  does_after : (own : List Event) (to : Session) (reply : Option Reply) (lab : LabState) → Steps own to reply lab → (is_closed to ≡ false → IsLabAt (before ++ (opening ++ own)) lab) → (IsSound the_texts before → IsDone terms before (of own to reply))
       → Does terms before (of own to reply)
-  does_behind own to reply lab steps at done = record {
+  does_after own to reply lab steps at done = record {
     steps = λ s there. (lab, subst (λ u. StepsFrom terms before (of own to reply) u lab) (stood_once the_texts _ _ w.start s texts_once w.first there) steps);
     leads = λ open_now. record { first = w.start; last = lab; before = first_lab; behind = at open_now; steps = steps };
     done = done;
@@ -226,24 +226,24 @@ module _ (terms : Terms) (mark : Faults) (before : List Event) (from : Session) 
     pub own_answered : (new : Control) (to : List OpenSwap) (reply : Reply) → IsDoneOf own (Some reply) new.lab (Open to) → Stands the_texts now new.journal new.lab → Does terms before (of own (Open to) (Some reply))
     own_answered new to reply done stands =
         let steps = so_steps own (Open to) (Some reply) new.lab done in
-        does_behind own (Open to) (Some reply) new.lab steps (λ open_now. subst (λ l. IsLabAt l new.lab) (sym there) (standing_lab now new stands))
-        (λ first. done_behind own (Open to) (Some reply) now there new.lab steps (sound (w.sound first)) (standing_lab now new stands) (standing_all now new stands) first)
+        does_after own (Open to) (Some reply) new.lab steps (λ open_now. subst (λ l. IsLabAt l new.lab) (sym there) (standing_lab now new stands))
+        (λ first. done_after own (Open to) (Some reply) now there new.lab steps (sound (w.sound first)) (standing_lab now new stands) (standing_all now new stands) first)
 
     -- memory was wanting
     pub own_unmade : (new : Control) → IsDoneOf own None new.lab Closed → Stands the_texts now new.journal new.lab → Does terms before (of own Closed None)
     own_unmade new done stands =
         let steps = so_steps own Closed None new.lab done in
-        does_behind own Closed None new.lab steps (λ open_now. absurd (cc open_now))
-        (λ first. done_behind own Closed None now there new.lab steps (sound (w.sound first)) (standing_lab now new stands) (λ a b at. (w.start, new.lab, from_there, standing_all now new stands a b at, steps)) first)
+        does_after own Closed None new.lab steps (λ open_now. absurd (cc open_now))
+        (λ first. done_after own Closed None now there new.lab steps (sound (w.sound first)) (standing_lab now new stands) (λ a b at. (w.start, new.lab, from_there, standing_all now new stands a b at, steps)) first)
 
     -- a reply closes it
     pub own_closed : (reply : Reply) → leaves_one Closed (Some reply) ≡ false → Shuts Done (Some (before ++ opening)) own reply (λ a b. []) → AsRead now → Does terms before (of own Closed (Some reply))
     own_closed reply other leaves readable =
-        does_behind own Closed (Some reply) leaves.lab (left_steps own reply leaves.lab (leaves.done [] [])) (λ open_now. absurd (cc open_now))
+        does_after own Closed (Some reply) leaves.lab (left_steps own reply leaves.lab (leaves.done [] [])) (λ open_now. absurd (cc open_now))
         (λ first.
         let image = leaves.images (w.sound first) in
         let x = image _ _ readable in
-        done_behind own Closed (Some reply) now there x.0 (left_steps own reply x.0 x.2) (sound (w.sound first)) x.1
+        done_after own Closed (Some reply) now there x.0 (left_steps own reply x.0 x.2) (sound (w.sound first)) x.1
         (subst (λ b. ImagesAt terms before (of own Closed (Some reply)) b now x.0) (sym other) (λ a b at. let y = image a b at in (w.start, y.0, from_there, y.1, left_steps own reply y.0 y.2))) first)
 
     module _ (leaves : Shuts Done (Some (before ++ opening)) own replies.Stopped (λ a b. Restarted a b ∷ [])) where
@@ -251,10 +251,10 @@ module _ (terms : Terms) (mark : Faults) (before : List Event) (from : Session) 
       pub own_stopped : (a b : List ℕ) → ArePossible now a b → Does terms before (of (own ++ Restarted a b ∷ []) Closed (Some replies.Stopped))
       own_stopped a b possible =
           let more = own ++ Restarted a b ∷ [] in
-          does_behind more Closed (Some replies.Stopped) leaves.lab (so_steps more Closed (Some replies.Stopped) leaves.lab (leaves.done a b)) (λ open_now. absurd (cc open_now))
+          does_after more Closed (Some replies.Stopped) leaves.lab (so_steps more Closed (Some replies.Stopped) leaves.lab (leaves.done a b)) (λ open_now. absurd (cc open_now))
           (λ first.
           let x = leaves.images (w.sound first) a b possible in
-          done_behind more Closed (Some replies.Stopped) (now ++ Restarted a b ∷ []) (sym (append_assoc (before ++ opening) own (Restarted a b ∷ []) ∙ append_assoc before opening more)) x.0
+          done_after more Closed (Some replies.Stopped) (now ++ Restarted a b ∷ []) (sym (append_assoc (before ++ opening) own (Restarted a b ∷ []) ∙ append_assoc before opening more)) x.0
           (so_steps more Closed (Some replies.Stopped) x.0 x.2) (restarted the_texts now a b possible (sound (w.sound first))).0 (restarted_lab now a b x.0 x.1) (restarted_stand the_texts now a b x.0 x.1) first)
 
       -- and isn't
@@ -263,11 +263,11 @@ module _ (terms : Terms) (mark : Faults) (before : List Event) (from : Session) 
 
       pub own_stays : AsRead now → Does terms before (of own Closed None)
       own_stays readable =
-          does_behind own Closed None leaves.lab (stays_steps [] [] leaves.lab (leaves.done [] [])) (λ open_now. absurd (cc open_now))
+          does_after own Closed None leaves.lab (stays_steps [] [] leaves.lab (leaves.done [] [])) (λ open_now. absurd (cc open_now))
           (λ first.
           let image = leaves.images (w.sound first) in
           let x = image _ _ readable in
-          done_behind own Closed None now there x.0 (stays_steps _ _ x.0 x.2) (sound (w.sound first)) x.1 (λ a b at. let y = image a b at in (w.start, y.0, from_there, y.1, stays_steps a b y.0 y.2)) first)
+          done_after own Closed None now there x.0 (stays_steps _ _ x.0 x.2) (sound (w.sound first)) x.1 (λ a b at. let y = image a b at in (w.start, y.0, from_there, y.1, stays_steps a b y.0 y.2)) first)
 
 -- A CONTROLLER THAT WAS OPEN, or is opened
 pub was_open : (trace : List Event) (c : Control) (swaps : List OpenSwap) → Stands the_texts trace c.journal c.lab → limit_of c.journal ≡ 2 ^ 32 → WasOpened trace (Open swaps) [] c swaps
@@ -317,7 +317,7 @@ module _ (trace reading behind : List Event) (c : Control) (o : OpenSteps trace 
     opens = opens_so;
     makes = o.reads.changes;
     moves = due_by o.ends.settled.placed o.ends.compacts o.ends.aside;
-    compact = compact_behind trace reading behind c o.ends (standing_lab (trace ++ (reading ++ behind)) c stands);
+    compact = compact_after trace reading behind c o.ends (standing_lab (trace ++ (reading ++ behind)) c stands);
   })
 
   pub is_opened : Stands the_texts (trace ++ (reading ++ behind)) c.journal c.lab → limit_of c.journal ≡ 2 ^ 32 → AsRead trace → WasOpened trace Closed (reading ++ behind) c []

@@ -151,14 +151,14 @@ sparing terms trace session (b ∷ middle) after e o are handed open_now others 
       sparing terms (trace ++ steps_of b.piece) b.piece.to middle after e o are.1 handed.1 open_now.1 others.1 (swap_stays terms trace b.piece are.0 open_now.0 e.name others.0 ∙ here),
     )
 
--- the pieces behind the first, with the session that they are handed
-pub handed_behind : (session : Session) (before rest : List Begun) → AreHandedOn session (before ++ rest) → AreHandedOn (session_after session before) rest
-handed_behind session [] rest handed = handed
-handed_behind session (b ∷ before) rest handed = handed_behind b.piece.to before rest handed.1
+-- the pieces after the first, with the session that they are handed
+pub handed_after : (session : Session) (before rest : List Begun) → AreHandedOn session (before ++ rest) → AreHandedOn (session_after session before) rest
+handed_after session [] rest handed = handed
+handed_after session (b ∷ before) rest handed = handed_after b.piece.to before rest handed.1
 
-pub pieces_behind : (terms : Terms) (trace : List Event) (before rest : List Begun) → ArePieces terms trace (before ++ rest) → ArePieces terms (trace_after trace before) rest
-pieces_behind terms trace [] rest are = are
-pieces_behind terms trace (b ∷ before) rest are = pieces_behind terms (trace ++ steps_of b.piece) before rest are.1
+pub pieces_after : (terms : Terms) (trace : List Event) (before rest : List Begun) → ArePieces terms trace (before ++ rest) → ArePieces terms (trace_after trace before) rest
+pieces_after terms trace [] rest are = are
+pieces_after terms trace (b ∷ before) rest are = pieces_after terms (trace ++ steps_of b.piece) before rest are.1
 
 pub sessions_join : (session : Session) (before middle : List Begun) → session_after session (before ++ middle) ≡ session_after (session_after session before) middle
 sessions_join session [] middle = refl
@@ -170,10 +170,10 @@ module _ (terms : Terms) (choices : Option Choices) (old new : Outside) (status 
   session = session_after Closed before
 
   are : ArePieces terms (trace_after t.trace before) (middle ++ after)
-  are = pieces_behind terms t.trace before (middle ++ after) (pieces_of terms choices old new status (before ++ (middle ++ after)) t r is)
+  are = pieces_after terms t.trace before (middle ++ after) (pieces_of terms choices old new status (before ++ (middle ++ after)) t r is)
 
   handed : AreHandedOn session (middle ++ after)
-  handed = handed_behind Closed before (middle ++ after) r.sessions
+  handed = handed_after Closed before (middle ++ after) r.sessions
 
   pub swaps_kept : (name : List ℕ) → StayOpen middle → AreOthers name middle → open_at name (opens_of (session_after Closed (before ++ middle))) ≡ open_at name (opens_of session)
   swaps_kept name open_now others = ap (λ s. open_at name (opens_of s)) (sessions_join Closed before middle) ∙ swaps_stay terms (trace_after t.trace before) session middle after name are handed open_now others
@@ -190,7 +190,7 @@ module _ (terms : Terms) (choices : Option Choices) (old new : Outside) (status 
   pub marked_at : (o : OpenSwap) → Has (opens_of (session_after Closed before)) o → (front : List Begun) × (b : Begun) × (rest : List Begun) × (before ≡ front ++ b ∷ rest) × (b.piece.faults.devices ≡ o.devices)
   marked_at o there = ⊎_elim (λ none. absurd none.1) (λ x. x) (all_marked terms old.plant.faults new.plant.faults Closed before after o r.counts r.sessions there)
 
--- no device command, or one and no step of the journal behind it
+-- no device command, or one and no step of the journal after it
 abbrev SendsOneAtMost : List Event → Type 0
 SendsOneAtMost own = (has_command own ≡ false) ⊎ SendsOne own
 

@@ -19,7 +19,7 @@ use Rattle.lab_top.specs.declared.status.Status.TheVariants as statuses
 use Rattle.lab_top.specs.Answering.{held_first}
 use Rattle.lab_top.specs.Pieces.{Begun, commands_of}
 use Rattle.lab_top.specs.Ran.{Answered, AreAnswered, AreFirst, BegunBy, BegunCommands, EndsSo, Finishes, GeneratedCommands, GoesOn, Numbered, Outside, Ran, WroteBy, WroteSummary, number_of, rule_of}
-use Rattle.lab_top.specs.Tellers.{replies_of}
+use Rattle.lab_top.specs.ReplyTakers.{replies_of}
 use Rattle.lab_words.specs.Words.{Choices, Usual}
 use Rattle.lab_top.proofs.Stepping.{all_some}
 use Rattle.records_model.specs.Labs.{at_first}

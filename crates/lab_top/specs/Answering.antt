@@ -1,4 +1,4 @@
--- The plant and the controller behind one command.
+-- The plant and the controller after one command.
 use Rattle.std.specs.Prelude.{◌≡◌, ◌⊎◌, ℕ, ◌<◌, ◌≤◌, ◌+◌, ◌^◌, Bool, true, false, is_some, List, [], ◌∷◌, ◌++◌, length, take, Option, Some, None, IfSome, Result, Ok, Err, if◌then◌else◌}
 use Rattle.std.specs.Io.KnownBytes.{append_known}
 use Rattle.lab_base.specs.Counts.{Rose}
@@ -33,7 +33,7 @@ use Rattle.lab_tasks.specs.OpenNames.{name_of}
 use Rattle.lab_core.specs.Tells.{opens_of}
 use Rattle.lab_top.specs.declared.command.CommandFault.{CommandFault}
 use Rattle.lab_top.specs.declared.command.CommandFault.TheVariants.{Memory, WriteFault, JournalBad}
-use Rattle.lab_top.specs.Pieces.{Piece, FindsNone, IsDone, IsPiece, IsPlannedBy, Leads, Later, StepsFrom, WantsBehind, WantsOnly, blames_if, blames_now_if, closes_if, is_closed, may_shut, stays_open, with_drill_if, GoesFrom, Held, OwnStep, held_behind}
+use Rattle.lab_top.specs.Pieces.{Piece, FindsNone, IsDone, IsPiece, IsPlannedBy, Leads, Later, StepsFrom, WantsAfter, WantsOnly, blames_if, blames_now_if, closes_if, is_closed, may_shut, stays_open, with_drill_if, GoesFrom, Held, OwnStep, held_after}
 
 -- what is seen of the plant between two commands, and the controller where it is open
 pub record Moment : Type 0 where
@@ -66,7 +66,7 @@ MayGoOn now = (session : Session) × HasSession now session
 abbrev pub piece_of : Command → Faults → Session → Session → List Event → List Event → Option Reply → Piece
 piece_of command mark from to opening own reply = record { command = command; faults = mark; from = from; to = to; opening = opening; own = own; reply = reply }
 
--- a controller that was opened by these steps over the trace, or was open before: it stands behind them for the lab to which they led, from that
+-- a controller that was opened by these steps over the trace, or was open before: it stands after them for the lab to which they led, from that
 -- which the sides stood for
 pub record WasOpened (trace : List Event) (from : Session) (opening : List Event) (c : Control) (swaps : List OpenSwap) : Type 0 where
   pub start : LabState
@@ -113,7 +113,7 @@ abbrev pub reply_if : Result Reply CommandFault → Option Reply
 reply_if (Ok reply) = Some reply
 reply_if (Err fault) = None
 
--- WHAT AN OPEN CONTROLLER MAKES of a command behind that mark, with these open swaps: the session behind it, which is closed where there is no reply
+-- WHAT AN OPEN CONTROLLER MAKES of a command after that mark, with these open swaps: the session after it, which is closed where there is no reply
 pub record Makes (terms : Terms) (mark : Faults) (command : Command) (old : Seen) (c : Control) (swaps : List OpenSwap) (new : Moment) (reply : Option Reply) : Type 0 where
   pub to : Session
   pub own : OwnTold terms old.told new.plant.told command mark c swaps to reply
@@ -124,7 +124,7 @@ pub record Makes (terms : Terms) (mark : Faults) (command : Command) (old : Seen
   pub here : blames_now_if reply ≡ true → Rose old.faults.devices new.plant.faults.devices
   pub opened : AreOpenedBy (name_of command) reply swaps (opens_of to) mark.devices
   pub goes_on : HasSession new to
-  pub wants : is_some reply ≡ false → new.plant.stopped ≡ false → IfSome old.told (λ t. WantsBehind terms.rule command t.trace (record { length = length_of c.journal; limit = limit_of c.journal; devices = mark.devices }) c.lab swaps own.0)
+  pub wants : is_some reply ≡ false → new.plant.stopped ≡ false → IfSome old.told (λ t. WantsAfter terms.rule command t.trace (record { length = length_of c.journal; limit = limit_of c.journal; devices = mark.devices }) c.lab swaps own.0)
 
 -- A DRILL IS PLANNED on a plant that takes drills, and else refused; or memory is wanting, and nothing is done
 abbrev pub Plans : Bool → Drill → Option Told → Option Told → Result Reply CommandFault → Type 0
@@ -153,13 +153,13 @@ pub record Begins (terms : Terms) (command : Command) (mark : Faults) (old new :
   pub is_piece : IfSome old (λ t. IsPiece terms t.trace (piece_of command mark from to opening own reply))
 
 -- THE LAB IS HANDED ON, over every plant, with the length of the journal: from those of the controller before the command, where it was open, to those of
--- the one behind it
+-- the one after it
 pub record HandsLab (terms : Terms) (told : Option Told) (piece : Piece) (old new : Option Control) : Type 0 where
   pub at : Held
   pub after : LabState
   pub first : IfSome old (λ c. at ≡ held_of c)
   pub goes : GoesFrom (drill_of piece.command) terms (with_more (trace_in told) piece.opening) piece at after
-  pub last : IfSome new (λ c. held_of c ≡ held_behind piece at after)
+  pub last : IfSome new (λ c. held_of c ≡ held_after piece at after)
 
 pub record Made (terms : Terms) (command : Command) (old new : Moment) (from to : Session) (reply : Option Reply) : Type 0 where
   pub begun : Begins terms command old.plant.faults old.plant.told new.plant.told from to reply
@@ -201,7 +201,7 @@ Sent before now text (Err (JournalBad side at)) = ⊥
 abbrev pub marked : Moment → Moment
 marked old = record old { plant = record (old.plant) { told = with_mark old.plant.told old.plant.faults } }
 
--- A COMMAND WAS ANSWERED: it was begun behind a mark, and what was written grew by its reply, which was taken, or by a proper prefix of it. At want of
+-- A COMMAND WAS ANSWERED: it was begun after a mark, and what was written grew by its reply, which was taken, or by a proper prefix of it. At want of
 -- memory it has no reply, or wasn't even begun; where the sides are no journal it has none.
 abbrev pub Answered : Terms → Command → Moment → Moment → Session → Option (List ℕ) → Option (List ℕ) → (Reply → Type 0) → Result (Unit {0}) CommandFault → Type 0
 Answered terms command old new from before now taken (Ok done) =

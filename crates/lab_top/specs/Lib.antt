@@ -5,4 +5,4 @@ pub mod Pieces
 pub mod Ran
 pub mod Readers
 pub mod Reports
-pub mod Tellers
+pub mod ReplyTakers

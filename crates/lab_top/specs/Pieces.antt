@@ -34,7 +34,7 @@ use Rattle.lab_core.specs.Recovery.{Opens, OpensInPart, Reads, SettlesFirst, rea
 use Rattle.lab_core.specs.Commands.{LabStep, is_about}
 use Rattle.cost_rule.specs.declared.rule.RuleNumber.{RuleNumber}
 use Rattle.lab_core.specs.Compaction.{IsPackedAt, IsPlaced, IsToMove, packed_length}
-use Rattle.lab_core.specs.Moments.{IsFoundAt, IsNoJournal, IsLabAt, IsLabOfImage, AllStandFor, StandForLab, IsLengthAt, IsLiveAt, IsLengthBehind, with_more}
+use Rattle.lab_core.specs.Moments.{IsFoundAt, IsNoJournal, IsLabAt, IsLabOfImage, AllStandFor, StandForLab, IsLengthAt, IsLiveAt, IsLengthAfter, with_more}
 use Rattle.lab_core.specs.Breaks.{Breaks}
 use Rattle.lab_core.specs.Opening.{IsJournal, MakesFirst, has_change}
 use Rattle.lab_core.specs.Said.{IsAsSaid}
@@ -115,7 +115,7 @@ abbrev pub blames_now_if : Option Reply → Bool
 blames_now_if None = false
 blames_now_if (Some reply) = blames_now reply
 
--- the session stays open only behind a reply that neither closes it nor is `stopped`, and is closed only behind one that is so, or where there is none
+-- the session stays open only after a reply that neither closes it nor is `stopped`, and is closed only after one that is so, or where there is none
 abbrev pub stays_open : Option Reply → Bool
 stays_open None = false
 stays_open (Some Stopped) = false
@@ -140,9 +140,9 @@ IsPlannedBy terms (Some drill) planned reply = IsPlannedAs terms.takes planned r
 
 -- a reply that closes comes only where the disk's count rose; one that blames a device only where the devices' count rose since the mark of the command
 -- that opened the experiment's swap, or where none is open since that of this one; and since that of this one where it blames it for what the command
--- itself sent. Each swap that is open behind the command was open before it, with its count, and the reply does not tell that it has ended; or the reply
--- tells that it has begun, of the command's own experiment, and its count is that at the mark. A drill is planned as its reply tells. Behind a reply that
--- closes, behind `stopped`, and where there is none, the session is closed.
+-- itself sent. Each swap that is open after the command was open before it, with its count, and the reply does not tell that it has ended; or the reply
+-- tells that it has begun, of the command's own experiment, and its count is that at the mark. A drill is planned as its reply tells. After a reply that
+-- closes, after `stopped`, and where there is none, the session is closed.
 pub record IsCaused (terms : Terms) (b : Begun) : Type 0 where
   pub later : Later b.piece.faults b.later
   pub disk : closes_if b.piece.reply ≡ true → Rose b.piece.faults.disk b.later.disk
@@ -162,14 +162,14 @@ abbrev pub AreHandedOn : Session → List Begun → Type 0
 AreHandedOn session [] = Unit {0}
 AreHandedOn session (b ∷ begun) = (b.piece.from ≡ session) × AreHandedOn b.piece.to begun
 
--- the session behind them
+-- the session after them
 abbrev pub session_after : Session → List Begun → Session
 session_after session [] = session
 session_after session (b ∷ begun) = session_after b.piece.to begun
 
 -- HOW A COMMAND FINDS THE JOURNAL, over any trace
 
--- BEHIND AN OPENING THE JOURNAL IS COMPACT, in that lab: it is at most a mebibyte long, or more than half of it is needed without the lab's past, or its
+-- AFTER AN OPENING THE JOURNAL IS COMPACT, in that lab: it is at most a mebibyte long, or more than half of it is needed without the lab's past, or its
 -- epoch is the last one. Where a side was live before the opening, the same one is so with the same epoch, or it was moved onto the other side, with
 -- the next epoch, and has exactly the records of the lab without its past. Where both sides were blank, the one to be so or to be moved from is side A,
 -- with epoch 1.
@@ -185,11 +185,11 @@ pub record IsCompact (trace opening : List Event) (mid : LabState) : Type 0 wher
       → ((side ≡ was) × (epoch ≡ old)) ⊎ ((side ≡ other_side was) × (epoch ≡ old + 1) × IsPackedAt (trace ++ opening) mid)
 
 -- WHAT AN OPENING WRITES, cuts or sends beside its settlings: a part that reads makes a new journal alone, and that only where both sides are blank;
--- then they are so still behind it, or side A is live, with epoch 1
+-- then they are so still after it, or side A is live, with epoch 1
 abbrev pub MakesNew : List Event → List Event → Type 0
 MakesNew trace steps = has_change steps ≡ true → MakesFirst trace steps
 
--- and a part that moves the journal, behind those steps and in that lab, does so only where that is to move; and the side that was live stays as it was,
+-- and a part that moves the journal, after those steps and in that lab, does so only where that is to move; and the side that was live stays as it was,
 -- up to the start of a plant that stopped
 pub record IsDue (trace front steps : List Event) (s : LabState) : Type 0 where
   pub length : ℕ
@@ -306,7 +306,7 @@ pub record HasOpened (piece : Piece) : Type 0 where
   pub no_restart : has_restart piece.opening ≡ false
   pub went_on : (is_some piece.reply ≡ true) ⊎ (piece.own ≡ [] → ⊥)
 
--- behind its opening, which led there, all images stand for that lab
+-- after its opening, which led there, all images stand for that lab
 pub record OpensTo (trace : List Event) (piece : Piece) (s mid : LabState) : Type 0 where
   pub opens : Opens s piece.opening mid
   pub images : AllStandFor (trace ++ piece.opening) mid
@@ -332,8 +332,8 @@ pub record IsPiece (terms : Terms) (trace : List Event) (piece : Piece) : Type 0
   pub done : IsSound the_texts trace → IsDone terms trace piece
 
 -- WITHOUT A REPLY, over a plant that is not stopped, memory was wanting: for the text of a reply alone, with which it is a piece; or before anything was
--- done but reading; or in the settling of its opening, between two experiments; or behind the opening, before anything of its own was done, or in
--- `recover` between two experiments; or in `play` between two events or in `batch` between two runs, behind the first of them. No swap and no settling of
+-- done but reading; or in the settling of its opening, between two experiments; or after the opening, before anything of its own was done, or in
+-- `recover` between two experiments; or in `play` between two events or in `batch` between two runs, after the first of them. No swap and no settling of
 -- an experiment is ended by it.
 abbrev pub ListsFirst : RuleNumber → Command → List Event → Ground → LabState → List OpenSwap → List Event → Type 0
 ListsFirst rule (Play exp from until lines text) trace base s opens own =
@@ -342,8 +342,8 @@ ListsFirst rule (Batch moment lines text) trace base s opens own =
     (start at : Serving) × JudgedBatch s text (Ok start) × ((after : LabState) × (to : List OpenSwap) × Past (runs_in_turn rule moment) base (Some trace) start s opens own at after to)
 ListsFirst rule command trace base s opens own = ⊥
 
-abbrev pub WantsBehind : RuleNumber → Command → List Event → Ground → LabState → List OpenSwap → List Event → Type 0
-WantsBehind rule command trace base s opens own =
+abbrev pub WantsAfter : RuleNumber → Command → List Event → Ground → LabState → List OpenSwap → List Event → Type 0
+WantsAfter rule command trace base s opens own =
     (own ≡ []) ⊎ (((command ≡ Recover) × ((after : LabState) × SettlesFirst s (names_of opens) own after)) ⊎ ListsFirst rule command trace base s opens own)
 
 pub data WantsOnly (terms : Terms) (trace : List Event) (piece : Piece) : Type 0 where
@@ -352,7 +352,7 @@ pub data WantsOnly (terms : Terms) (trace : List Event) (piece : Piece) : Type 0
   settling : (s after : LabState) (front moving : List Event) → IsLabAt trace s → piece.opening ≡ front ++ moving → Reads front → has_miss front ≡ false → has_restart front ≡ false → SettlesFirst s [] moving after
       → piece.own ≡ [] → WantsOnly terms trace piece
   behind : (s mid : LabState) (length : ℕ) → IsLabAt trace s → BeginsAt piece.from s piece.opening mid → IsLengthAt (trace ++ piece.opening) length
-      → WantsBehind terms.rule piece.command (trace ++ piece.opening) (record { length = length; limit = 2 ^ 32; devices = piece.faults.devices }) mid (opens_of piece.from) piece.own
+      → WantsAfter terms.rule piece.command (trace ++ piece.opening) (record { length = length; limit = 2 ^ 32; devices = piece.faults.devices }) mid (opens_of piece.from) piece.own
       → WantsOnly terms trace piece
 
 -- each image that is possible stands for a lab in which the experiment is so
@@ -382,7 +382,7 @@ abbrev pub AreOn : List ℕ → List Begun → Type 0
 AreOn exp [] = Unit {0}
 AreOn exp (b ∷ begun) = (is_some (open_at exp (opens_of b.piece.to)) ≡ true) × AreOn exp begun
 
--- WHERE A REPLY TELLS THAT AN EXPERIMENT IS, in or out, there it is in each possible image behind later commands that are about others; and it is the same
+-- WHERE A REPLY TELLS THAT AN EXPERIMENT IS, in or out, there it is in each possible image after later commands that are about others; and it is the same
 -- in all of them
 pub record AreAll (is : Phase → Bool) (trace : List Event) (exp : List ℕ) : Type 0 where
   pub experiment : Experiment
@@ -390,7 +390,7 @@ pub record AreAll (is : Phase → Bool) (trace : List Event) (exp : List ℕ) : 
   pub is_so : is experiment.phase ≡ true
   pub all : AllHave trace experiment
 
--- an experiment of that name is so in each possible image of the trace; and behind later commands that are about others, too, if it doesn't move
+-- an experiment of that name is so in each possible image of the trace; and after later commands that are about others, too, if it doesn't move
 pub record AreAllAs (exp : List ℕ) (trace : List Event) (later : List Begun) (e : Experiment) : Type 0 where
   pub named : e.name ≡ exp
   pub at_once : AllHave trace e
@@ -415,12 +415,12 @@ pub record Held : Type 0 where
   pub lab : LabState
   pub length : ℕ
 
--- A COMMAND'S OWN PART IS A LAB STEP of an open session, from the lab at which it begins to the one behind it: by the length that the journal has there,
+-- A COMMAND'S OWN PART IS A LAB STEP of an open session, from the lab at which it begins to the one after it: by the length that the journal has there,
 -- which is within its limit, and where the trace is told up to this part, that of the sides there. One that isn't answered is such a step but for its
 -- reply.
 pub record OwnStep (terms : Terms) (trace : Option (List Event)) (piece : Piece) (at : Held) (after : LabState) : Type 0 where
   pub sane : Sane at.lab
-  pub length_is : IsLengthBehind trace [] (2 ^ 32) at.length
+  pub length_is : IsLengthAfter trace [] (2 ^ 32) at.length
   pub told : Option Reply
   pub session : Session
   pub behind : List Event
@@ -439,9 +439,9 @@ abbrev pub GoesFrom : Option Drill → Terms → Option (List Event) → Piece �
 GoesFrom (Some drill) terms trace piece at after = (after ≡ at.lab) × (is_some piece.reply ≡ true → piece.to ≡ piece.from)
 GoesFrom None terms trace piece at after = OwnStep terms trace piece at after ⊎ NotOpened piece
 
--- behind it: that lab, and a journal that is longer by the records that it appended
-abbrev pub held_behind : Piece → Held → LabState → Held
-held_behind piece at after = record { lab = after; length = at.length + appended piece.own }
+-- after it: that lab, and a journal that is longer by the records that it appended
+abbrev pub held_after : Piece → Held → LabState → Held
+held_after piece at after = record { lab = after; length = at.length + appended piece.own }
 
 -- THE LAB OF THE SESSION AND THE LENGTH OF ITS JOURNAL ARE HANDED ON, to the last: a command that finds the session open begins at those that the one
 -- before it left; one that opens it begins at those to which its opening led
@@ -449,18 +449,18 @@ abbrev pub HandLabsOn : Terms → Option (List Event) → Held → List Begun �
 HandLabsOn terms trace held [] last = last ≡ held
 HandLabsOn terms trace held (b ∷ begun) last =
     (at : Held) × (after : LabState) × (is_closed b.piece.from ≡ false → at ≡ held) × GoesFrom (drill_of b.piece.command) terms (with_more trace b.piece.opening) b.piece at after
-    × HandLabsOn terms (with_more trace (steps_of b.piece)) (held_behind b.piece at after) begun last
+    × HandLabsOn terms (with_more trace (steps_of b.piece)) (held_after b.piece at after) begun last
 
--- AMONG LABS THAT ARE HANDED ON, that from which the command behind these goes in its own part, with the length, and the lab to which it leads
+-- AMONG LABS THAT ARE HANDED ON, that from which the command after these goes in its own part, with the length, and the lab to which it leads
 abbrev pub held_from : (terms : Terms) (trace : Option (List Event)) (held last : Held) (before after : List Begun) (b : Begun)
     → HandLabsOn terms trace held (before ++ b ∷ after) last → Held
 held_from terms trace held last [] after b labs = labs.0
-held_from terms trace held last (x ∷ before) after b labs = held_from terms (with_more trace (steps_of x.piece)) (held_behind x.piece labs.0 labs.1) last before after b labs.4
+held_from terms trace held last (x ∷ before) after b labs = held_from terms (with_more trace (steps_of x.piece)) (held_after x.piece labs.0 labs.1) last before after b labs.4
 
 abbrev pub lab_behind : (terms : Terms) (trace : Option (List Event)) (held last : Held) (before after : List Begun) (b : Begun)
     → HandLabsOn terms trace held (before ++ b ∷ after) last → LabState
 lab_behind terms trace held last [] after b labs = labs.1
-lab_behind terms trace held last (x ∷ before) after b labs = lab_behind terms (with_more trace (steps_of x.piece)) (held_behind x.piece labs.0 labs.1) last before after b labs.4
+lab_behind terms trace held last (x ∷ before) after b labs = lab_behind terms (with_more trace (steps_of x.piece)) (held_after x.piece labs.0 labs.1) last before after b labs.4
 
 -- the text of the reply, if there is one
 abbrev pub text_if : Option Reply → List ℕ

@@ -18,7 +18,7 @@ use Rattle.lab_top.specs.declared.status.Status.{Status}
 use Rattle.lab_top.specs.declared.status.Status.TheVariants.{Done, ReadFault, WriteFault, Usage, BadScript, Memory, JournalBad}
 use Rattle.lab_core.specs.Sessions.{Closed, Terms}
 use Rattle.lab_top.specs.Pieces.{Begun, AreHandedOn, ArePieces, Counts, FindsNone, commands_of, trace_after, with_pieces, reply_text, reply_texts, WantsOnly, Held, HandLabsOn, held_from, lab_behind}
-use Rattle.lab_top.specs.Tellers.{replies_of}
+use Rattle.lab_top.specs.ReplyTakers.{replies_of}
 use Rattle.lab_gen.specs.Script.{generated}
 use Rattle.lab_gen.specs.Summary.{summary}
 use Rattle.lab_words.specs.Words.{Choices, Usual}
@@ -33,12 +33,12 @@ pub record Outside : Type 0 where
   pub plant : Seen
   pub written : Option (List ℕ)
 
--- these are the first commands behind line `number`
+-- these are the first commands after line `number`
 abbrev pub AreFirst : ℕ → Lines → List Command → Type 0
 AreFirst number lines [] = Unit {0}
 AreFirst number lines (c ∷ commands) = (after : ℕ) × (rest : Lines) × (next_of number lines ≡ Got c after rest) × AreFirst after rest commands
 
--- and a line of that number is not behind what is found behind them
+-- and a line of that number is not after what is found after them
 abbrev pub AreFirstTo : ℕ → ℕ → Lines → List Command → Type 0
 AreFirstTo line number lines [] = IsWithin line (next_of number lines)
 AreFirstTo line number lines (c ∷ commands) = (after : ℕ) × (rest : Lines) × (next_of number lines ≡ Got c after rest) × AreFirstTo line after rest commands
@@ -47,31 +47,31 @@ AreFirstTo line number lines (c ∷ commands) = (after : ℕ) × (rest : Lines) 
 abbrev pub AreWhole : List ℕ → List Command → Type 0
 AreWhole bytes commands = IsScript bytes commands AtEnd ⊎ IsScript bytes commands (BadLine (length (script_lines bytes) + 1))
 
--- what was taken of these bytes: these commands to the last line, and behind that no more than the longest line with a piece
+-- what was taken of these bytes: these commands to the last line, and after that no more than the longest line with a piece
 abbrev pub IsReadTo : List ℕ → Option (List ℕ) → List Command → Type 0
 IsReadTo bytes left commands = (done : List ℕ) × (ahead : List ℕ) × (rest : List ℕ) × (bytes ≡ done ++ ahead ++ rest) × (left ≡ Some rest) × (length ahead ≤ 8193) × IsScript done commands AtEnd
 
--- what was taken of these bytes: lines, of which none is behind that of this number, and behind them no more than the longest line with a piece
+-- what was taken of these bytes: lines, of which none is after that of this number, and after them no more than the longest line with a piece
 abbrev pub IsTakenTo : List ℕ → Option (List ℕ) → ℕ → Type 0
 IsTakenTo bytes left line = (done : List ℕ) × (ahead : List ℕ) × (rest : List ℕ) × (bytes ≡ done ++ ahead ++ rest) × (left ≡ Some rest) × (length ahead ≤ 8193) × (length (script_lines done) ≤ line)
 
--- what was taken of these bytes: no line behind the command that comes after these, or behind the one that is not in the grammar
-abbrev pub IsTakenBehind : List ℕ → Option (List ℕ) → List Command → Type 0
-IsTakenBehind bytes left commands = (line : ℕ) × IsTakenTo bytes left line × AreFirstTo line 0 (script_lines bytes) commands
+-- what was taken of these bytes: no line after the command that comes after these, or after the one that is not in the grammar
+abbrev pub IsTakenAfter : List ℕ → Option (List ℕ) → List Command → Type 0
+IsTakenAfter bytes left commands = (line : ℕ) × IsTakenTo bytes left line × AreFirstTo line 0 (script_lines bytes) commands
 
 -- the commands that were begun, by how the run ended
 abbrev pub BegunCommands : List ℕ → Option (List ℕ) → List Command → Status → Type 0
 -- all of them, and nothing is left
 BegunCommands bytes left begun Done = IsScript bytes begun AtEnd × (left ≡ Some [])
--- all before that line, which is the first that is not in the grammar, and no line behind it is taken
+-- all before that line, which is the first that is not in the grammar, and no line after it is taken
 BegunCommands bytes left begun (BadScript line) = IsScript bytes begun (BadLine line) × IsTakenTo bytes left line
--- those whose last line lies, with its line feed, in the bytes that were taken, and behind the lines no more than a line with a piece
+-- those whose last line lies, with its line feed, in the bytes that were taken, and after the lines no more than a line with a piece
 BegunCommands bytes left begun ReadFault = (done : List ℕ) × (pending : List ℕ) × (rest : List ℕ) × (bytes ≡ done ++ pending ++ rest) × (left ≡ Some rest) × (length pending ≤ 8193) × NoFeed pending × IsWhole done × AreWhole done begun
 -- some of the first, and nothing further is read
 BegunCommands bytes left begun WriteFault = AreFirst 0 (script_lines bytes) begun × IsReadTo bytes left begun
 BegunCommands bytes left begun (JournalBad side at) = AreFirst 0 (script_lines bytes) begun × IsReadTo bytes left begun
--- some of the first, and no line is taken behind the next one
-BegunCommands bytes left begun Memory = AreFirst 0 (script_lines bytes) begun × IsTakenBehind bytes left begun
+-- some of the first, and no line is taken after the next one
+BegunCommands bytes left begun Memory = AreFirst 0 (script_lines bytes) begun × IsTakenAfter bytes left begun
 -- none, and nothing is taken
 BegunCommands bytes left begun Usage = (begun ≡ []) × (left ≡ Some bytes)
 
@@ -181,7 +181,7 @@ pub record Ran (terms : Terms) (choices : Option Choices) (old new : Outside) (s
   pub refused : choices ≡ None → (status ≡ Usage) ⊎ (status ≡ Memory)
   pub usage : status ≡ Usage → choices ≡ None
   pub none : choices ≡ None → made ≡ []
-  -- the marks are the moments just before the commands that were begun, behind each mark stand the steps of its command, and the drills are those that were planned
+  -- the marks are the moments just before the commands that were begun, after each mark stand the steps of its command, and the drills are those that were planned
   pub told : new.plant.told ≡ with_pieces old.plant.told made
   pub counts : Counts terms old.plant.faults made new.plant.faults
   -- the session is closed at first, and handed on
@@ -203,7 +203,7 @@ pub record Ran (terms : Terms) (choices : Option Choices) (old new : Outside) (s
   -- the output is the replies, or of a generated run their summary
   pub wrote : WroteBy (number_of choices) old.written new.written made status
 
--- THE LABS OF A RUN, as they are handed on in it: that from which the command behind these goes in its own part, with the length of the journal there, and
+-- THE LABS OF A RUN, as they are handed on in it: that from which the command after these goes in its own part, with the length of the journal there, and
 -- that to which it leads
 abbrev pub held_in : {terms : Terms} {choices : Option Choices} {old new : Outside} {status : Status} (before after : List Begun) (b : Begun)
     → Ran terms choices old new status (before ++ b ∷ after) → Held
@@ -213,6 +213,6 @@ abbrev pub from_in : {terms : Terms} {choices : Option Choices} {old new : Outsi
     → Ran terms choices old new status (before ++ b ∷ after) → LabState
 from_in before after b r = (held_in before after b r).lab
 
-abbrev pub behind_in : {terms : Terms} {choices : Option Choices} {old new : Outside} {status : Status} (before after : List Begun) (b : Begun)
+abbrev pub after_in : {terms : Terms} {choices : Option Choices} {old new : Outside} {status : Status} (before after : List Begun) (b : Begun)
     → Ran terms choices old new status (before ++ b ∷ after) → LabState
-behind_in {terms} {choices} {old} before after b r = lab_behind terms (trace_in old.plant.told) r.labs.0 r.labs.1 before after b r.labs.2
+after_in {terms} {choices} {old} before after b r = lab_behind terms (trace_in old.plant.told) r.labs.0 r.labs.1 before after b r.labs.2

@@ -8,7 +8,7 @@ ghost use Rattle.lab_core.specs.Sessions.{OpenSwap, Session, terms_of};
 ghost use Rattle.lab_top.specs.Answering.{Answered, Ends, HasSession, IsMarkAt, IsOpen, Makes, MayGoOn, MayOpen, Plans, Starts, Unopened, reply_if};
 ghost use Rattle.lab_top.specs.Pieces.{Later, closes_if};
 
-use crate::tellers::Teller;
+use crate::reply_takers::ReplyTaker;
 use cost_rule::StepRule;
 use journal_rec::MAX_JOURNAL;
 use lab_core::{Controller, CoreFault, OpenFault};
@@ -159,12 +159,12 @@ fn reply_to<P: Tables>(
 }
 
 /// Marks the moment, obeys a command or plans the failure of a drill, and tells the reply.
-pub(crate) fn answer_command<T: Teller, P: Tables>(
+pub(crate) fn answer_command<T: ReplyTaker, P: Tables>(
     alloc: Global,
     controller: &mut Option<Controller>,
     command: Command,
     rule: &StepRule,
-    teller: &mut T,
+    taker: &mut T,
     plant: &mut P,
 ) -> Result<(), CommandFault>
     requires blocks { HasBlocks command }
@@ -173,15 +173,15 @@ pub(crate) fn answer_command<T: Teller, P: Tables>(
         → Answered (terms_of P.takes_drills rule.now.number) command
         (record { plant = P.seen plant.old; controller = controller.old })
         (record { plant = P.seen plant.new; controller = controller.new }) from
-        (T.written teller.old) (T.written teller.new) (λ reply. T.takes teller.old reply teller.new) result }
-    ensures write { IsErrOf result CommandFault.WriteFault → Rose (T.faults teller.old) (T.faults teller.new) }
-    ensures later { T.faults teller.old ≤ T.faults teller.new }
+        (T.written taker.old) (T.written taker.new) (λ reply. T.takes taker.old reply taker.new) result }
+    ensures write { IsErrOf result CommandFault.WriteFault → Rose (T.faults taker.old) (T.faults taker.new) }
+    ensures later { T.faults taker.old ≤ T.faults taker.new }
 {
     let Ok(()) = plant.mark() else {
         return Err(CommandFault::Memory);
     };
     match reply_to(alloc, controller, &command, rule, plant) {
-        Ok(reply) => teller.tell(alloc, &reply),
+        Ok(reply) => taker.take_reply(alloc, &reply),
         Err(fault) => Err(fault),
     }
 }

@@ -4,12 +4,12 @@ ghost use Rattle.lab_core.specs.Sessions.{terms_of};
 ghost use Rattle.lab_top.specs.Pieces.{Begun};
 ghost use Rattle.lab_top.specs.Ran.{Ran};
 ghost use Rattle.lab_top.specs.Readers.{IsNew};
-ghost use Rattle.lab_top.specs.Tellers.{Took, replies_of};
+ghost use Rattle.lab_top.specs.ReplyTakers.{Took, replies_of};
 ghost use Rattle.lab_words.specs.Words.{Usual};
 
 use crate::command::{CommandFault, answer_command};
+use crate::reply_takers::ReplyTaker;
 use crate::status::Status;
-use crate::tellers::Teller;
 use cost_rule::StepRule;
 use lab_core::Controller;
 use lab_io::{LineReader, Source};
@@ -25,30 +25,30 @@ struct Run {
 }
 
 /// Obeys the commands of a script one after another, and tells the reply to each before it reads the next.
-fn obey_commands<S: Source, T: Teller, P: Tables>(
+fn obey_commands<S: Source, T: ReplyTaker, P: Tables>(
     alloc: Global,
     run: &mut Run,
     rule: &StepRule,
     source: &mut S,
-    teller: &mut T,
+    taker: &mut T,
     plant: &mut P,
 ) -> Status
     requires lines { IsNew run.old.lines }
     requires closed { run.old.controller ≡ None }
     ensures ran { (made : List Begun) × Ran (terms_of P.takes_drills rule.now.number) (Some Usual)
-        (record { left = S.left source.old; plant = P.seen plant.old; written = T.written teller.old })
-        (record { left = S.left source.new; plant = P.seen plant.new; written = T.written teller.new }) result made
-        × (result ≡ Status.Done → Took T.takes teller.old (replies_of made) teller.new) }
+        (record { left = S.left source.old; plant = P.seen plant.old; written = T.written taker.old })
+        (record { left = S.left source.new; plant = P.seen plant.new; written = T.written taker.new }) result made
+        × (result ≡ Status.Done → Took T.takes taker.old (replies_of made) taker.new) }
     ensures read { result ≡ Status.ReadFault → Rose (S.faults source.old) (S.faults source.new) }
     ensures calm { result ≢ Status.ReadFault → S.faults source.new ≡ S.faults source.old }
     ensures read_later { S.faults source.old ≤ S.faults source.new }
-    ensures write { result ≡ Status.WriteFault → Rose (T.faults teller.old) (T.faults teller.new) }
-    ensures write_later { T.faults teller.old ≤ T.faults teller.new }
+    ensures write { result ≡ Status.WriteFault → Rose (T.faults taker.old) (T.faults taker.new) }
+    ensures write_later { T.faults taker.old ≤ T.faults taker.new }
 {
     'commands: loop {
         match read_command(alloc, &mut run.lines, source) {
             Ok(Next::Command(command)) => {
-                match answer_command(alloc, &mut run.controller, command, rule, teller, plant) {
+                match answer_command(alloc, &mut run.controller, command, rule, taker, plant) {
                     Ok(()) => {}
                     Err(CommandFault::Memory) => return Status::Memory,
                     Err(CommandFault::WriteFault) => return Status::WriteFault,
@@ -66,22 +66,22 @@ fn obey_commands<S: Source, T: Teller, P: Tables>(
 }
 
 /// Obeys a script from its first line to its end.
-pub(crate) fn obey_script<S: Source, T: Teller, P: Tables>(
+pub(crate) fn obey_script<S: Source, T: ReplyTaker, P: Tables>(
     alloc: Global,
     rule: &StepRule,
     source: &mut S,
-    teller: &mut T,
+    taker: &mut T,
     plant: &mut P,
 ) -> Status
     ensures ran { (made : List Begun) × Ran (terms_of P.takes_drills rule.now.number) (Some Usual)
-        (record { left = S.left source.old; plant = P.seen plant.old; written = T.written teller.old })
-        (record { left = S.left source.new; plant = P.seen plant.new; written = T.written teller.new }) result made
-        × (result ≡ Status.Done → Took T.takes teller.old (replies_of made) teller.new) }
+        (record { left = S.left source.old; plant = P.seen plant.old; written = T.written taker.old })
+        (record { left = S.left source.new; plant = P.seen plant.new; written = T.written taker.new }) result made
+        × (result ≡ Status.Done → Took T.takes taker.old (replies_of made) taker.new) }
     ensures read { result ≡ Status.ReadFault → Rose (S.faults source.old) (S.faults source.new) }
     ensures calm { result ≢ Status.ReadFault → S.faults source.new ≡ S.faults source.old }
     ensures read_later { S.faults source.old ≤ S.faults source.new }
-    ensures write { result ≡ Status.WriteFault → Rose (T.faults teller.old) (T.faults teller.new) }
-    ensures write_later { T.faults teller.old ≤ T.faults teller.new }
+    ensures write { result ≡ Status.WriteFault → Rose (T.faults taker.old) (T.faults taker.new) }
+    ensures write_later { T.faults taker.old ≤ T.faults taker.new }
 {
     let Ok(lines) = LineReader::new(alloc) else {
         return Status::Memory;
@@ -90,7 +90,7 @@ pub(crate) fn obey_script<S: Source, T: Teller, P: Tables>(
         lines,
         controller: None,
     };
-    let status = obey_commands(alloc, &mut run, rule, source, teller, plant);
+    let status = obey_commands(alloc, &mut run, rule, source, taker, plant);
     drop(run);
     status
 }

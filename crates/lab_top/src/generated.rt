@@ -8,8 +8,8 @@ ghost use Rattle.lab_top.specs.Pieces.{Begun};
 ghost use Rattle.lab_top.specs.Ran.{Finishes, Numbered, Ran, WroteSummary};
 
 use crate::commands::obey_script;
+use crate::reply_takers::Counter;
 use crate::status::Status;
-use crate::tellers::Counter;
 use cost_rule::StepRule;
 use lab_gen::{Tally, TextSource, generate};
 use lab_io::{Sink, write_all};

@@ -56,7 +56,7 @@ pub fn bad_journals()
 {}
 
 /// A supplied solution is swapped in, or its swap begins where `open` stands before the command, exactly where it is feasible on the free rest of the
-/// lab behind the opening. Else the reply tells what hindered it.
+/// lab after the opening. Else the reply tells what hindered it.
 /// A line of a reply to `batch` tells what is so, like any reply, if no later run of that batch is of the experiment; and so does the reply that ended a
 /// `play`, and where none did, the experiment is in. Where such a reply closes the controller, its earlier lines hold too, in each image that
 /// a later stop may leave.
@@ -128,7 +128,7 @@ pub fn runs()
     ensures script { (bytes : List ℕ) (a b : List Command) (x y : Ending) → IsScript bytes a x → IsScript bytes b y → (a ≡ b) × (x ≡ y) }
 {}
 
-/// Recoveries, over every sound trace: behind an opening in which none got stuck, and behind a `recover` that tells so, no experiment moves but those
+/// Recoveries, over every sound trace: after an opening in which none got stuck, and after a `recover` that tells so, no experiment moves but those
 /// with an open swap. Where some got stuck, one whose own settling met no trouble is at rest still.
 /// So it is in any image that a stop may leave. Besides what these claim, the devices have exactly what the experiments that are in want.
 pub fn recoveries()
@@ -162,7 +162,7 @@ pub fn recoveries()
 /// The experiment of each open swap moves, at each moment and over any trace. Where the swap begins with a supplied solution, and its end is answered
 /// as in, the experiment is in by that solution.
 /// A turn sends one device command, or appends one record, over any trace. One that is refused does neither. One that breaks off sends no more than
-/// one, and nothing of the journal behind it.
+/// one, and nothing of the journal after it.
 /// Where a turn of one, or all up to its end, find the session open, they leave the world of each other experiment as it was, however they end: each
 /// row that it wants, and each node that it claims.
 /// No more than sixteen swaps are open, and no two of one name. Each has the count of device faults at the mark of a command before, over every
@@ -213,7 +213,7 @@ pub fn turns()
 /// Audits. Over any trace one that is answered `audit N` has no own steps. Its lines of switches are exactly those by which the devices differ from
 /// the lab of that moment. So are its lines of nodes, where the trace leaves open the boot state of none that is compared.
 /// Over every sound trace it tells that nothing differs, also beside open swaps, whose experiments move.
-/// A command has the reply `unread NAME` exactly where a reading of that device failed in it, in its opening or behind. Only an audit has such a
+/// A command has the reply `unread NAME` exactly where a reading of that device failed in it, in its opening or after. Only an audit has such a
 /// reply, and that reading is its one step. Whatever the plant tells, such a reply comes only where the count of device faults rose in that command.
 /// The own steps of an audit change no side and no table, and none of them is a step of an experiment's course.
 pub fn audits()

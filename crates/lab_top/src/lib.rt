@@ -6,9 +6,9 @@ mod commands;
 mod generated;
 mod laws;
 mod plants;
+mod reply_takers;
 mod session;
 mod status;
-mod tellers;
 mod top;
 
 pub use lab_words::{Place, PlaceFault, place_of};

@@ -8,7 +8,7 @@ ghost use Rattle.lab_core.specs.Moments.{trace_in, with_more};
 ghost use Rattle.lab_core.specs.Sessions.{Closed, open_at, Terms};
 ghost use Rattle.lab_core.specs.Tells.{AllMove, Hinders, IsFeasibleFor, busy_of, is_of_drill, opens_of, taken_reply};
 ghost use Rattle.lab_top.specs.Pieces.{AreOthers, Begun, NotOpened, OwnStep, StayOpen, session_after, traces_after};
-ghost use Rattle.lab_top.specs.Ran.{Outside, Ran, behind_in, from_in, held_in};
+ghost use Rattle.lab_top.specs.Ran.{Outside, Ran, after_in, from_in, held_in};
 ghost use Rattle.lab_top.specs.declared.status.Status.{Status};
 ghost use Rattle.lab_words.specs.Words.{Choices};
 
@@ -27,7 +27,7 @@ pub fn every_plant()
     ensures steps { (terms : Terms) (choices : Option Choices) (old new : Outside) (status : Status) (before after : List Begun) (b : Begun)
         → (r : Ran terms choices old new status (before ++ b ∷ after)) → drill_of b.piece.command ≡ None
         → NotOpened b.piece ⊎ (OwnStep terms (with_more (traces_after (trace_in old.plant.told) before) b.piece.opening) b.piece
-        (held_in before after b r) (behind_in before after b r) × AllMove (opens_of b.piece.from) (from_in before after b r)) }
+        (held_in before after b r) (after_in before after b r) × AllMove (opens_of b.piece.from) (from_in before after b r)) }
     ensures solutions { (terms : Terms) (choices : Option Choices) (old new : Outside) (status : Status) (before after : List Begun) (b : Begun)
         (only_begin : Bool) (exp text : List ℕ) (lines : ℕ) (reply : Reply)
         → (r : Ran terms choices old new status (before ++ b ∷ after)) → b.piece.command ≡ SwapinWith only_begin exp lines text → b.piece.reply ≡ Some reply

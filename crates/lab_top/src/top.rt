@@ -26,7 +26,7 @@ use std::alloc::Global;
 /// Obeys the script of the source, and writes a reply to each of its commands before it reads the next. With `--gen N` it obeys the
 /// script of that number instead, and writes a summary of the replies at its end.
 ///
-/// `words` are those behind the program's name. Their choice of the plant's place is done already: see [`crate::place_of`].
+/// `words` are those after the program's name. Their choice of the plant's place is done already: see [`crate::place_of`].
 pub fn labctl<S: Source, K: Sink, P: Tables>(
     alloc: Global,
     words: &[String],

@@ -1,4 +1,4 @@
--- The text of a lab, behind its ptop text.
+-- The text of a lab, after its ptop text.
 use Rattle.std.specs.Prelude.{ℕ, ◌+◌, ◌-◌, ◌&&◌, Bool, nat_lt, is_none, if◌then◌else◌, List, [], ◌∷◌, ◌++◌, length, codes, decimal, flat_map, Option, Some, None}
 use Rattle.std.specs.List.{list_any, range_with_len}
 use Rattle.lab_view.specs.declared.view.View.{View}
@@ -25,7 +25,7 @@ spaced name = 32 ∷ name
 
 abbrev pub seat_words : View → Option Seat → List ℕ
 seat_words v None = codes " free"
-seat_words v (Some s) = held_word s.held ++ exp_name v s.exp ++ flat_map spaced s.guests
+seat_words v (Some s) = held_word s.held ++ exp_name v s.exp ++ flat_map spaced s.hosted
 
 -- A MACHINE, with who holds it and which virtual nodes are there
 abbrev pub machine_line : View → Machine → List ℕ
@@ -98,7 +98,7 @@ phase_word stands.Out = codes " out "
 phase_word stands.In = codes " in "
 phase_word stand = codes " moving "
 
--- AN EXPERIMENT, with the numbers of machines and of VLAN ids that it claims; behind it which way it moves
+-- AN EXPERIMENT, with the numbers of machines and of VLAN ids that it claims; after it which way it moves
 abbrev pub exp_line : Exp → List ℕ
 exp_line e = codes "exp " ++ e.name ++ phase_word e.stand ++ decimal e.nodes ++ 32 ∷ [] ++ decimal e.ids ++ 10 ∷ []
 
@@ -109,7 +109,7 @@ exp_lines e = exp_line e ++ move_line e
 abbrev pub free_line : View → List ℕ
 free_line v = codes "free " ++ decimal (free_machines v) ++ 32 ∷ [] ++ decimal (free_ids v) ++ 10 ∷ []
 
--- THE TEXT OF A LAB behind its ptop text
+-- THE TEXT OF A LAB after its ptop text
 abbrev pub lines_of : View → List ℕ
 lines_of v = flat_map (switch_lines v) (range_with_len 0 (length v.switches)) ++ lone_lines v ++ flat_map (trunk_line v) v.trunks ++ ids_line v
     ++ flat_map exp_lines v.experiments ++ free_line v

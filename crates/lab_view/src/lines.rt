@@ -40,10 +40,10 @@ fn push_switch_name(text: &mut Text, view: &View, switch: usize) -> Result<(), M
     }
 }
 
-fn push_guests(text: &mut Text, guests: &[Name]) -> Result<(), Memory>
-    ensures { OnOk result (text.new ≡ text.old ++ flat_map spaced guests.now) }
+fn push_hosted(text: &mut Text, hosted: &[Name]) -> Result<(), Memory>
+    ensures { OnOk result (text.new ≡ text.old ++ flat_map spaced hosted.now) }
 {
-    for guest in guests {
+    for guest in hosted {
         text.push(b' ')?;
         text.push_bytes(guest.bytes())?;
     }
@@ -58,7 +58,7 @@ fn push_seat(text: &mut Text, view: &View, seat: &Option<Seat>) -> Result<(), Me
         Some(seat) => {
             text.push_bytes(held_word(seat.held).as_bytes())?;
             push_exp(text, view, seat.exp)?;
-            push_guests(text, seat.guests.as_slice())
+            push_hosted(text, seat.hosted.as_slice())
         }
     }
 }
@@ -334,7 +334,7 @@ fn push_free(text: &mut Text, view: &View) -> Result<(), Memory>
     text.push(b'\n')
 }
 
-/// The lines of a lab behind its ptop text. A lab has at most 65,536 VLAN ids.
+/// The lines of a lab after its ptop text. A lab has at most 65,536 VLAN ids.
 pub fn lines_of(alloc: Global, view: &View) -> Result<Text, Memory>
     requires { length view.now.owners ≤ MAX_IDS }
     ensures { IfOk result (λ text. text ≡ lines_of view.now) }

@@ -22,7 +22,7 @@ pub enum Held {
 pub struct Seat {
     pub exp: usize,
     pub held: Held,
-    pub guests: Items<Name>,
+    pub hosted: Items<Name>,
 }
 
 /// A machine, with its types and their counts, the switch of each of its interfaces, and its holder.

@@ -1,4 +1,4 @@
--- The place that the words behind the program's name choose.
+-- The place that the words after the program's name choose.
 use Rattle.std.specs.Prelude.{◌≡◌, Option, Some, None, Result, Ok, Err, option_map, string_bytes}
 use Rattle.lab_words.specs.Words.{Choices, Kept, Blank, Folder, kept_in}
 use Rattle.lab_words.specs.declared.place.Place.{Place}

@@ -1,4 +1,4 @@
--- THE COMMAND LINE: what the words behind the program's name say.
+-- THE COMMAND LINE: what the words after the program's name say.
 use Rattle.std.specs.Prelude.{ℕ, true, false, List, [], ◌∷◌, Option, Some, None, option_map, option_and_then, codes, map, String, string_bytes, if◌then◌else◌}
 use Rattle.std.specs.Str.{bytes_eq}
 use Rattle.std.specs.Str.Parse.{digits_value, without_leading_plus}

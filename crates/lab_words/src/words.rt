@@ -16,7 +16,7 @@ pub struct Chosen<'a> {
     pub dir: Option<&'a str>,
     /// The cost rule of the session.
     pub rule: RuleNumber,
-    /// The number behind `--gen`: that script is obeyed in place of the source's.
+    /// The number after `--gen`: that script is obeyed in place of the source's.
     pub generated: Option<u64>,
 }
 
@@ -49,7 +49,7 @@ fn rule_named(word: &str) -> Option<RuleNumber>
     }
 }
 
-/// The number behind `--gen`: None where its value is no number, `Some(None)` where the option isn't there.
+/// The number after `--gen`: None where its value is no number, `Some(None)` where the option isn't there.
 fn number_in(matches: &ArgMatches<'_>) -> Option<Option<u64>>
     ensures { result ≡ number_if (one_text (found_of matches.now) (codes "gen")) }
 {

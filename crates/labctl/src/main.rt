@@ -13,7 +13,7 @@ use plant_mem::MemLab;
 use std::process::ExitCode;
 use std::{env, io};
 
-/// The words behind the program's name.
+/// The words after the program's name.
 fn words_of(rt: &HostRuntime) -> io::Result<Vec<String>> {
     let mut words = Vec::new(rt.alloc());
     for word in env::args(rt)?.skip(1) {
@@ -45,7 +45,7 @@ fn run_in_memory(rt: &HostRuntime, words: &[String]) -> Status {
 }
 
 /// Tells on standard error that `tables` has a line of another form, where a call read one.
-fn tell_tables(rt: &HostRuntime, refused: Option<TextFault>) -> io::Result<()> {
+fn say_tables(rt: &HostRuntime, refused: Option<TextFault>) -> io::Result<()> {
     match refused {
         Some(TextFault { line, kind }) => {
             eprintln!(rt; "labctl: bad tables line {line} {}", kind.word())
@@ -58,7 +58,7 @@ fn run_in_folder(rt: &HostRuntime, words: &[String], dir: &str) -> Status {
     match FileLab::new(rt, dir) {
         Ok(mut plant) => {
             let status = run_over(rt, words, &mut plant);
-            let _told = tell_tables(rt, plant.refused());
+            let _told = say_tables(rt, plant.refused());
             status
         }
         Err(_) => Status::Memory,
@@ -79,7 +79,7 @@ fn run(rt: &HostRuntime) -> Status {
 }
 
 /// Tells on standard error how the run ended, where it wasn't at the script's end.
-fn tell(rt: &HostRuntime, status: Status) -> io::Result<()> {
+fn say_end(rt: &HostRuntime, status: Status) -> io::Result<()> {
     match status {
         Status::Done => Ok(()),
         Status::ReadFault => eprintln!(rt; "labctl: read fault"),
@@ -94,6 +94,6 @@ fn tell(rt: &HostRuntime, status: Status) -> io::Result<()> {
 
 fn main(rt: HostRuntime) -> ExitCode {
     let status = run(&rt);
-    let _told = tell(&rt, status);
+    let _told = say_end(&rt, status);
     ExitCode::from(status.code())
 }

@@ -146,7 +146,7 @@ fn run(rt: &HostRuntime) -> End {
 }
 
 /// Says on standard error how the run ended, where the reply doesn't.
-fn tell(rt: &HostRuntime, end: End) -> io::Result<()> {
+fn say_end(rt: &HostRuntime, end: End) -> io::Result<()> {
     match end {
         End::Done | End::Bad | End::Refused => Ok(()),
         End::Usage => eprintln!(rt; "labgrow DIR NEW.ptop TO"),
@@ -159,6 +159,6 @@ fn tell(rt: &HostRuntime, end: End) -> io::Result<()> {
 
 fn main(rt: HostRuntime) -> ExitCode {
     let end = run(&rt);
-    let _told = tell(&rt, end);
+    let _told = say_end(&rt, end);
     ExitCode::from(end.code())
 }

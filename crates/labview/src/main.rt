@@ -10,7 +10,7 @@ use lab_base::{Memory, Text};
 use lab_drawn::picture_in;
 use lab_files::{file, tables_in};
 use lab_io::{StdSink, write_all};
-use lab_look::{Shown, Telling, Told, check, text_in};
+use lab_look::{CheckLines, CheckOptions, Shown, check, text_in};
 use plant::Side;
 use std::alloc::Global;
 use std::process::ExitCode;
@@ -110,18 +110,18 @@ fn show(rt: &HostRuntime, seen: &Seen, svg: bool) -> End {
 }
 
 /// A check of what was seen.
-fn checked(alloc: Global, seen: &Seen, all: bool) -> Result<Told, Memory> {
+fn checked(alloc: Global, seen: &Seen, all: bool) -> Result<CheckLines, Memory> {
     // for the prover: no longer text is read
     let count = seen.tables.len().min(MAX_TABLES);
     let tables = tables_seen(alloc, &seen.tables[..count])?;
     let still = seen.still;
-    check(alloc, &seen.a, &seen.b, Telling { still, all }, tables)
+    check(alloc, &seen.a, &seen.b, CheckOptions { still, all }, tables)
 }
 
 /// Writes what a check tells of what was seen.
-fn tell_check(rt: &HostRuntime, seen: &Seen, all: bool) -> End {
+fn print_check(rt: &HostRuntime, seen: &Seen, all: bool) -> End {
     match checked(rt.alloc(), seen, all) {
-        Ok(Told { text, damaged }) => {
+        Ok(CheckLines { text, damaged }) => {
             let end = if damaged { End::Damaged } else { End::Done };
             write(rt, &text, end)
         }
@@ -134,7 +134,7 @@ fn run_on(rt: &HostRuntime, asked: Asked<'_>) -> End {
         return End::Unread;
     };
     if asked.check {
-        tell_check(rt, &seen, asked.records)
+        print_check(rt, &seen, asked.records)
     } else {
         show(rt, &seen, asked.svg)
     }
@@ -169,7 +169,7 @@ fn run(rt: &HostRuntime) -> End {
 }
 
 /// Says on standard error how the run ended, where that is not its end.
-fn tell(rt: &HostRuntime, end: End) -> io::Result<()> {
+fn say_end(rt: &HostRuntime, end: End) -> io::Result<()> {
     match end {
         End::Done | End::Damaged => Ok(()),
         End::Usage => eprintln!(rt; "labview [--check [--records]] [--svg] DIR"),
@@ -183,6 +183,6 @@ fn tell(rt: &HostRuntime, end: End) -> io::Result<()> {
 
 fn main(rt: HostRuntime) -> ExitCode {
     let end = run(&rt);
-    let _told = tell(&rt, end);
+    let _told = say_end(&rt, end);
     ExitCode::from(end.code())
 }

@@ -1,4 +1,4 @@
-// The command line: what the words behind the program's name choose.
+// The command line: what the words after the program's name choose.
 use clap::error::ErrorKind;
 use clap::{Arg, ArgAction, ArgMatches, Command, Error};
 use std::alloc::Global;

@@ -2,7 +2,7 @@
 use crate::answers::boot_word;
 use lab_base::{Boot, Kind};
 use node_state::{Seen, Watch, lawful};
-use row_words::{Untold, Words};
+use row_words::{RowFault, Words};
 use std::alloc::AllocError;
 use std::fmt::Write;
 
@@ -15,17 +15,17 @@ const STATES: [Boot; 5] = [
 ];
 
 /// The state of a word.
-fn state_of(word: &str) -> Result<Boot, Untold> {
+fn state_of(word: &str) -> Result<Boot, RowFault> {
     for state in STATES {
         if boot_word(state) == word {
             return Ok(state);
         }
     }
-    Err(Untold::Word(Kind::Word))
+    Err(RowFault::Word(Kind::Word))
 }
 
 /// The last verdict of a watch.
-fn seen(words: &mut Words<'_>) -> Result<Seen, Untold> {
+fn seen(words: &mut Words<'_>) -> Result<Seen, RowFault> {
     let mut watch = Watch::new();
     let mut seen = Seen::Wait;
     for _ in 0..10 {
@@ -67,7 +67,7 @@ fn push_lawful(out: &mut String) -> Result<(), AllocError> {
 }
 
 /// Adds what is told of boot states, if that is asked.
-pub fn told(out: &mut String, kind: &str, words: &mut Words<'_>) -> Result<bool, Untold> {
+pub fn told(out: &mut String, kind: &str, words: &mut Words<'_>) -> Result<bool, RowFault> {
     match kind {
         "see" => push_seen(out, seen(words)?)?,
         "lawful" => push_lawful(out)?,

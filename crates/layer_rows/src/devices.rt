@@ -3,12 +3,12 @@ use crate::answers::{answer_word, boot_word, letters, yes_or_no};
 use lab_base::{Name, Rates};
 use plant::{DeviceOp, Plant};
 use plant_mem::MemLab;
-use row_words::{Untold, Words};
+use row_words::{RowFault, Words};
 use std::alloc::AllocError;
 use std::fmt::Write;
 
 /// A command to a switch.
-fn of_port(joins: bool, words: &mut Words<'_>) -> Result<DeviceOp, Untold> {
+fn of_port(joins: bool, words: &mut Words<'_>) -> Result<DeviceOp, RowFault> {
     let switch = words.name()?;
     let port = words.short()?;
     let vlan = words.vlan()?;
@@ -20,7 +20,7 @@ fn of_port(joins: bool, words: &mut Words<'_>) -> Result<DeviceOp, Untold> {
 }
 
 /// Rates, of which the last two may be left out.
-fn rates(words: &mut Words<'_>) -> Result<Rates, Untold> {
+fn rates(words: &mut Words<'_>) -> Result<Rates, RowFault> {
     let kbps = words.number()?;
     let (mut micros, mut ppm) = (0, 0);
     if !words.rest().is_empty() {
@@ -35,7 +35,7 @@ fn rates(words: &mut Words<'_>) -> Result<Rates, Untold> {
 }
 
 /// A command that shapes what goes between two interfaces of a node. Where it has no other rates for the way back, they are the same.
-fn of_pipe(node: Name, words: &mut Words<'_>) -> Result<DeviceOp, Untold> {
+fn of_pipe(node: Name, words: &mut Words<'_>) -> Result<DeviceOp, RowFault> {
     let pipe = words.short()?;
     let there = rates(words)?;
     let back = if words.rest().is_empty() {
@@ -54,7 +54,7 @@ fn of_pipe(node: Name, words: &mut Words<'_>) -> Result<DeviceOp, Untold> {
 }
 
 /// A command to a node.
-fn of_node(kind: &str, words: &mut Words<'_>) -> Result<DeviceOp, Untold> {
+fn of_node(kind: &str, words: &mut Words<'_>) -> Result<DeviceOp, RowFault> {
     let node = words.name()?;
     match kind {
         "load" => Ok(DeviceOp::Load {
@@ -69,7 +69,7 @@ fn of_node(kind: &str, words: &mut Words<'_>) -> Result<DeviceOp, Untold> {
 }
 
 /// The command of that kind, if there is one.
-pub fn op_of(kind: &str, words: &mut Words<'_>) -> Result<Option<DeviceOp>, Untold> {
+pub fn op_of(kind: &str, words: &mut Words<'_>) -> Result<Option<DeviceOp>, RowFault> {
     match kind {
         "join" => Ok(Some(of_port(true, words)?)),
         "leave" => Ok(Some(of_port(false, words)?)),
@@ -79,7 +79,7 @@ pub fn op_of(kind: &str, words: &mut Words<'_>) -> Result<Option<DeviceOp>, Unto
 }
 
 /// Adds whether a port of a switch is in a VLAN.
-fn push_row(out: &mut String, plant: &MemLab, words: &mut Words<'_>) -> Result<(), Untold> {
+fn push_row(out: &mut String, plant: &MemLab, words: &mut Words<'_>) -> Result<(), RowFault> {
     let switch = words.name()?;
     let port = words.short()?;
     let vlan = words.vlan()?;
@@ -102,7 +102,7 @@ pub fn obeyed<P: Plant>(
     plant: &mut P,
     kind: &str,
     words: &mut Words<'_>,
-) -> Result<bool, Untold> {
+) -> Result<bool, RowFault> {
     match op_of(kind, words)? {
         Some(op) => {
             out.push_str(answer_word(plant.command(op)))?;
@@ -118,7 +118,7 @@ pub fn told(
     plant: &MemLab,
     kind: &str,
     words: &mut Words<'_>,
-) -> Result<bool, Untold> {
+) -> Result<bool, RowFault> {
     match kind {
         "row" => push_row(out, plant, words)?,
         "node" => push_node(out, plant, words.name()?)?,

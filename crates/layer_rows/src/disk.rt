@@ -3,7 +3,7 @@ use crate::answers::{done_word, fault_word, yes_or_no};
 use crate::bytes::{bytes_of, push_spelled};
 use plant::{Plant, Side};
 use plant_mem::MemLab;
-use row_words::{Untold, Words};
+use row_words::{RowFault, Words};
 use std::alloc::{AllocError, Global};
 use std::fmt::Write;
 
@@ -16,7 +16,7 @@ fn push_length<P: Plant>(out: &mut String, plant: &mut P, side: Side) -> Result<
 }
 
 /// The bytes that a side reads as.
-fn read(alloc: Global, plant: &mut MemLab, side: Side) -> Result<Vec<u8>, Untold> {
+fn read(alloc: Global, plant: &mut MemLab, side: Side) -> Result<Vec<u8>, RowFault> {
     let size = plant.length(side)?;
     let mut bytes = vec![in alloc; 0u8; size as usize]?;
     plant.read(side, 0, &mut bytes)?;
@@ -24,7 +24,11 @@ fn read(alloc: Global, plant: &mut MemLab, side: Side) -> Result<Vec<u8>, Untold
 }
 
 /// Writes bytes to a side from a place on.
-fn write(alloc: Global, plant: &mut MemLab, words: &mut Words<'_>) -> Result<&'static str, Untold> {
+fn write(
+    alloc: Global,
+    plant: &mut MemLab,
+    words: &mut Words<'_>,
+) -> Result<&'static str, RowFault> {
     let side = words.side()?;
     let at = u64::from(words.number()?);
     let bytes = bytes_of(alloc, words.word())?;
@@ -32,14 +36,14 @@ fn write(alloc: Global, plant: &mut MemLab, words: &mut Words<'_>) -> Result<&'s
 }
 
 /// Cuts a side to a length.
-fn cut(plant: &mut MemLab, words: &mut Words<'_>) -> Result<&'static str, Untold> {
+fn cut(plant: &mut MemLab, words: &mut Words<'_>) -> Result<&'static str, RowFault> {
     let side = words.side()?;
     let size = u64::from(words.number()?);
     Ok(done_word(plant.cut(side, size)))
 }
 
 /// Starts a stopped plant again; tells whether it was stopped.
-fn restart(plant: &mut MemLab) -> Result<&'static str, Untold> {
+fn restart(plant: &mut MemLab) -> Result<&'static str, RowFault> {
     if !plant.stopped() {
         return Ok("not stopped");
     }
@@ -53,7 +57,7 @@ pub fn told_of_side<P: Plant>(
     plant: &mut P,
     kind: &str,
     words: &mut Words<'_>,
-) -> Result<bool, Untold> {
+) -> Result<bool, RowFault> {
     match kind {
         "length" => push_length(out, plant, words.side()?)?,
         "sync" => out.push_str(done_word(plant.sync(words.side()?)))?,
@@ -75,7 +79,7 @@ pub fn told(
     plant: &mut MemLab,
     kind: &str,
     words: &mut Words<'_>,
-) -> Result<bool, Untold> {
+) -> Result<bool, RowFault> {
     match kind {
         "read" => push_spelled(out, &read(alloc, plant, words.side()?)?)?,
         "write" => out.push_str(write(alloc, plant, words)?)?,

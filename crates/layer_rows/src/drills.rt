@@ -1,30 +1,30 @@
 //! Drills, and what a stop leaves behind.
 use lab_base::{Kind, Memory, Name};
 use plant::{Drill, DrillFault, How, Pick, Plant};
-use row_words::{Untold, Words};
+use row_words::{RowFault, Words};
 
-fn how(words: &mut Words<'_>) -> Result<How, Untold> {
+fn how(words: &mut Words<'_>) -> Result<How, RowFault> {
     match words.word() {
         "applied" => Ok(How::Applied),
         "not" => Ok(How::Not),
         "hang" => Ok(How::Hang),
         "jump" => Ok(How::Jump),
         "read" => Ok(How::Read),
-        _ => Err(Untold::Word(Kind::Word)),
+        _ => Err(RowFault::Word(Kind::Word)),
     }
 }
 
-fn pick(words: &mut Words<'_>) -> Result<Pick, Untold> {
+fn pick(words: &mut Words<'_>) -> Result<Pick, RowFault> {
     match words.word() {
         "none" => Ok(Pick::Nothing),
         "all" => Ok(Pick::All),
         "torn" => Ok(Pick::Torn),
-        _ => Err(Untold::Word(Kind::Word)),
+        _ => Err(RowFault::Word(Kind::Word)),
     }
 }
 
 /// A failure of the disk or of a device.
-fn failure(words: &mut Words<'_>) -> Result<Drill, Untold> {
+fn failure(words: &mut Words<'_>) -> Result<Drill, RowFault> {
     match words.word() {
         "disk" => Ok(Drill::Disk {
             nth: words.number()?,
@@ -37,7 +37,7 @@ fn failure(words: &mut Words<'_>) -> Result<Drill, Untold> {
     }
 }
 
-fn stop(words: &mut Words<'_>) -> Result<Drill, Untold> {
+fn stop(words: &mut Words<'_>) -> Result<Drill, RowFault> {
     Ok(Drill::Stop {
         nth: words.number()?,
         pick: pick(words)?,
@@ -58,7 +58,7 @@ pub fn told<P: Plant>(
     plant: &mut P,
     kind: &str,
     words: &mut Words<'_>,
-) -> Result<bool, Untold> {
+) -> Result<bool, RowFault> {
     match kind {
         "fail" => out.push_str(plan(plant, failure(words)?)?)?,
         "stop" => out.push_str(plan(plant, stop(words)?)?)?,

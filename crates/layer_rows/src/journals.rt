@@ -7,7 +7,7 @@ use journal_disk::{AppendFault, CompactFault, Journal, OpenFault};
 use journal_rec::{Encoded, Found, Packed, Record};
 use lab_base::Kind;
 use plant_mem::MemLab;
-use row_words::{Untold, Words};
+use row_words::{RowFault, Words};
 use std::alloc::{AllocError, Global};
 use std::fmt::Write;
 
@@ -15,12 +15,12 @@ use std::fmt::Write;
 const LIMIT: u64 = 1 << 32;
 
 /// Adds why the journal isn't opened.
-fn push_fault(out: &mut String, fault: OpenFault) -> Result<(), Untold> {
+fn push_fault(out: &mut String, fault: OpenFault) -> Result<(), RowFault> {
     match fault {
         OpenFault::Plant => out.push_str("failed")?,
         OpenFault::Stopped => out.push_str("stopped")?,
         OpenFault::Bad { side, at } => write!(out, "bad {} {at}", side_word(side))?,
-        OpenFault::Memory => return Err(Untold::Memory),
+        OpenFault::Memory => return Err(RowFault::Memory),
     }
     Ok(())
 }
@@ -50,7 +50,7 @@ fn push_journal(out: &mut String, journal: &Journal, records: &[Found]) -> Resul
 }
 
 /// Opens the journal, and adds what it is.
-fn push_opened(out: &mut String, alloc: Global, plant: &mut MemLab) -> Result<(), Untold> {
+fn push_opened(out: &mut String, alloc: Global, plant: &mut MemLab) -> Result<(), RowFault> {
     match Journal::open(alloc, plant, LIMIT) {
         Ok((journal, records)) => {
             let pushed = push_journal(out, &journal, &records);
@@ -78,7 +78,7 @@ fn push_append(
     plant: &mut MemLab,
     limit: u64,
     record: &Encoded,
-) -> Result<(), Untold>
+) -> Result<(), RowFault>
     requires least { 18 ≤ limit }
     requires most { limit ≤ 2 ^ 32 }
 {
@@ -98,10 +98,10 @@ fn push_append_to(
     alloc: Global,
     plant: &mut MemLab,
     words: &mut Words<'_>,
-) -> Result<(), Untold> {
+) -> Result<(), RowFault> {
     let limit = u64::from(words.number()?);
     if limit < 18 {
-        return Err(Untold::Word(Kind::Word));
+        return Err(RowFault::Word(Kind::Word));
     }
     push_append(out, alloc, plant, limit, &deletion(alloc, words.name()?)?)
 }
@@ -111,9 +111,9 @@ fn compact(
     journal: &mut Journal,
     packed: &Packed,
     plant: &mut MemLab,
-) -> Result<&'static str, Untold> {
+) -> Result<&'static str, RowFault> {
     if journal.epoch() == u64::MAX || packed.length() > journal.limit() {
-        return Err(Untold::Word(Kind::Word));
+        return Err(RowFault::Word(Kind::Word));
     }
     match journal.compact(packed, plant) {
         Ok(()) => Ok("done"),
@@ -128,7 +128,7 @@ fn push_move(
     alloc: Global,
     plant: &mut MemLab,
     packed: &Packed,
-) -> Result<(), Untold> {
+) -> Result<(), RowFault> {
     match Journal::open(alloc, plant, LIMIT) {
         Ok((mut journal, records)) => {
             drop(records);
@@ -145,7 +145,7 @@ fn push_compact(
     alloc: Global,
     plant: &mut MemLab,
     record: &Encoded,
-) -> Result<(), Untold> {
+) -> Result<(), RowFault> {
     let mut packed = Packed::new(alloc)?;
     packed.add(record)?;
     push_move(out, alloc, plant, &packed)
@@ -158,7 +158,7 @@ pub fn told(
     plant: &mut MemLab,
     kind: &str,
     words: &mut Words<'_>,
-) -> Result<bool, Untold> {
+) -> Result<bool, RowFault> {
     match kind {
         "open" => push_opened(out, alloc, plant)?,
         "append" => push_append(out, alloc, plant, LIMIT, &deletion(alloc, words.name()?)?)?,

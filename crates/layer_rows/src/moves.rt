@@ -5,7 +5,7 @@ use crate::swaps::{Last, finish, opened, planned_of, swap};
 use lab_base::{Name, What};
 use plant::{DeviceOp, Step};
 use plant_mem::MemLab;
-use row_words::Untold;
+use row_words::RowFault;
 use std::alloc::{AllocError, Global};
 use swap_txn::{Ended, Live};
 
@@ -36,7 +36,7 @@ fn push_step(out: &mut String, step: &Step) -> Result<(), AllocError> {
     }
 }
 
-/// Adds the steps, each as a sign, with `!` behind a command that failed.
+/// Adds the steps, each as a sign, with `!` after a command that failed.
 fn push_steps(out: &mut String, steps: &[Step]) -> Result<(), AllocError> {
     for step in steps {
         push_step(out, step)?;
@@ -101,7 +101,7 @@ fn push_run(
     alloc: Global,
     plant: &mut MemLab,
     is_out: bool,
-) -> Result<(), Untold> {
+) -> Result<(), RowFault> {
     let exp = Name::read(b"A")?;
     let mut journal = opened(alloc, plant)?;
     let ops = ops_of(alloc, is_out, false)?;
@@ -118,7 +118,7 @@ fn push_again(
     plant: &mut MemLab,
     is_out: bool,
     inside: bool,
-) -> Result<(), Untold> {
+) -> Result<(), RowFault> {
     let exp = Name::read(b"A")?;
     let mut journal = opened(alloc, plant)?;
     let ops = ops_of(alloc, is_out, inside)?;
@@ -134,7 +134,7 @@ pub fn told(
     alloc: Global,
     plant: &mut MemLab,
     kind: &str,
-) -> Result<bool, Untold> {
+) -> Result<bool, RowFault> {
     match kind {
         "swapin" => push_run(out, alloc, plant, false)?,
         "swapout" => push_run(out, alloc, plant, true)?,

@@ -2,7 +2,7 @@
 use crate::devices::op_of;
 use lab_base::{Items, Kind, Memory};
 use plant::DeviceOp;
-use row_words::{Untold, Words};
+use row_words::{RowFault, Words};
 use std::alloc::Global;
 use swap_plan::{Commands, Ops};
 
@@ -25,9 +25,9 @@ fn add(commands: &mut Commands, op: DeviceOp) -> Result<(), Memory> {
 }
 
 /// Adds the command of a text.
-fn add_read(commands: &mut Commands, text: &str) -> Result<(), Untold> {
+fn add_read(commands: &mut Commands, text: &str) -> Result<(), RowFault> {
     let mut words = Words::new(text, 0);
-    let op = op_of(words.word(), &mut words)?.ok_or(Untold::Word(Kind::Word))?;
+    let op = op_of(words.word(), &mut words)?.ok_or(RowFault::Word(Kind::Word))?;
     Ok(add(commands, op)?)
 }
 
@@ -41,7 +41,7 @@ fn nothing(alloc: Global) -> Commands {
 }
 
 /// Adds the commands of a text.
-fn add_all(commands: &mut Commands, text: &str) -> Result<(), Untold> {
+fn add_all(commands: &mut Commands, text: &str) -> Result<(), RowFault> {
     for part in text.split(',') {
         add_read(commands, part)?;
     }
@@ -49,7 +49,7 @@ fn add_all(commands: &mut Commands, text: &str) -> Result<(), Untold> {
 }
 
 /// Adds the commands of a swap-out, or those of a swap-in or a change, with its undo.
-fn add_ops(ops: &mut Ops, out: bool) -> Result<(), Untold> {
+fn add_ops(ops: &mut Ops, out: bool) -> Result<(), RowFault> {
     if out {
         return add_all(&mut ops.commands, CLEARING);
     }
@@ -58,7 +58,7 @@ fn add_ops(ops: &mut Ops, out: bool) -> Result<(), Untold> {
 }
 
 /// The commands of a swap-out, or of a swap-in or a change whose undo leads back into the lab or out of it.
-pub fn ops_of(alloc: Global, out: bool, inside: bool) -> Result<Ops, Untold> {
+pub fn ops_of(alloc: Global, out: bool, inside: bool) -> Result<Ops, RowFault> {
     let mut ops = Ops {
         commands: nothing(alloc),
         undo: nothing(alloc),
@@ -66,9 +66,9 @@ pub fn ops_of(alloc: Global, out: bool, inside: bool) -> Result<Ops, Untold> {
     };
     match add_ops(&mut ops, out) {
         Ok(()) => Ok(ops),
-        Err(untold) => {
+        Err(row_fault) => {
             drop(ops);
-            Err(untold)
+            Err(row_fault)
         }
     }
 }

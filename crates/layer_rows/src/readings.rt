@@ -2,7 +2,7 @@
 use crate::answers::{boot_word, letters};
 use lab_base::VlanId;
 use plant::{NodeRow, PipeRow, ReadFailed, Tables};
-use row_words::{Untold, Words};
+use row_words::{RowFault, Words};
 use std::alloc::AllocError;
 use std::fmt::Write;
 
@@ -54,7 +54,7 @@ pub fn told<P: Tables>(
     plant: &mut P,
     kind: &str,
     words: &mut Words<'_>,
-) -> Result<bool, Untold> {
+) -> Result<bool, RowFault> {
     match kind {
         "read-row" => {
             let switch = words.name()?;

@@ -29,7 +29,7 @@ use crate::{boots, devices, disk, drills, journals, moves, readings, records};
 use lab_base::{Kind, Text};
 use plant::Tables;
 use plant_mem::MemLab;
-use row_words::{Untold, Words};
+use row_words::{RowFault, Words};
 use std::alloc::Global;
 use std::fmt::Write;
 
@@ -39,7 +39,7 @@ pub fn told_of_plant<P: Tables>(
     plant: &mut P,
     kind: &str,
     words: &mut Words<'_>,
-) -> Result<bool, Untold> {
+) -> Result<bool, RowFault> {
     Ok(
         devices::obeyed(out, plant, kind, words)?
             || readings::told(out, plant, kind, words)?
@@ -55,7 +55,7 @@ fn told_of(
     plant: &mut MemLab,
     kind: &str,
     words: &mut Words<'_>,
-) -> Result<bool, Untold> {
+) -> Result<bool, RowFault> {
     Ok(
         told_of_plant(out, plant, kind, words)?
             || devices::told(out, plant, kind, words)?
@@ -68,12 +68,12 @@ fn told_of(
 }
 
 /// Does an action; gives what is told of it, in a line.
-fn act(alloc: Global, plant: &mut MemLab, action: &str, nth: u32) -> Result<String, Untold> {
+fn act(alloc: Global, plant: &mut MemLab, action: &str, nth: u32) -> Result<String, RowFault> {
     let mut words = Words::new(action, nth);
     let kind = words.word();
     let mut out = String::new(alloc);
     if !told_of(&mut out, alloc, plant, kind, &mut words)? {
-        return Err(Untold::Word(Kind::Unknown));
+        return Err(RowFault::Word(Kind::Unknown));
     }
     out.push('\n')?;
     Ok(out)
@@ -85,7 +85,7 @@ fn told_over(
     plant: &mut MemLab,
     actions: &str,
     nth: Option<u32>,
-) -> Result<String, Untold> {
+) -> Result<String, RowFault> {
     let mut out = String::new(alloc);
     for action in actions.split(';') {
         if nth.is_some() {
@@ -97,7 +97,7 @@ fn told_over(
 }
 
 /// These outputs over a blank plant.
-fn told_blank(alloc: Global, actions: &str, nth: Option<u32>) -> Result<String, Untold> {
+fn told_blank(alloc: Global, actions: &str, nth: Option<u32>) -> Result<String, RowFault> {
     let mut plant = MemLab::blank(alloc)?;
     let told = told_over(alloc, &mut plant, actions, nth);
     drop(plant);
@@ -105,7 +105,7 @@ fn told_blank(alloc: Global, actions: &str, nth: Option<u32>) -> Result<String, 
 }
 
 /// The outputs of the last action with 1, 2, .. up to a number in the place of `#`.
-fn each(alloc: Global, words: &mut Words<'_>) -> Result<String, Untold> {
+fn each(alloc: Global, words: &mut Words<'_>) -> Result<String, RowFault> {
     let most = words.number()?;
     let actions = words.rest();
     let mut out = String::new(alloc);
@@ -123,7 +123,7 @@ fn each(alloc: Global, words: &mut Words<'_>) -> Result<String, Untold> {
 }
 
 /// The output of a row, without the end of its last line.
-pub fn told(alloc: Global, line: &str) -> Result<Text, Untold> {
+pub fn told(alloc: Global, line: &str) -> Result<Text, RowFault> {
     let mut words = Words::new(line, 0);
     let told = match words.word() {
         "each" => each(alloc, &mut words)?,

@@ -9,7 +9,7 @@ use journal_disk::Journal;
 use journal_rec::Way;
 use lab_base::{Name, Tags, Text, What};
 use plant_mem::MemLab;
-use row_words::Untold;
+use row_words::RowFault;
 use std::alloc::Global;
 use swap_plan::Ops;
 use swap_txn::*;
@@ -87,7 +87,7 @@ fn way_of(alloc: Global, out: bool) -> Way
 }
 
 /// A swap that is planned.
-pub fn planned_of(alloc: Global, exp: Name, ops: Ops, out: bool) -> Result<Planned, Untold> {
+pub fn planned_of(alloc: Global, exp: Name, ops: Ops, out: bool) -> Result<Planned, RowFault> {
     let way = way_of(alloc, out);
     let _bytes = exp.bytes();
     Ok(Planned::new(alloc, exp, ops, way)?)
@@ -121,7 +121,7 @@ pub fn swap(planned: Planned, journal: &mut Journal, plant: &mut MemLab) -> Last
 }
 
 /// A journal over the plant.
-pub fn opened(alloc: Global, plant: &mut MemLab) -> Result<Journal, Untold>
+pub fn opened(alloc: Global, plant: &mut MemLab) -> Result<Journal, RowFault>
     ensures stands { IfOk result (λ journal. Stands (Some (told_of plant.new)) journal) }
     ensures limit { IfOk result (λ journal. limit_of journal ≡ 2 ^ 32) }
 {
@@ -130,6 +130,6 @@ pub fn opened(alloc: Global, plant: &mut MemLab) -> Result<Journal, Untold>
             drop(records);
             Ok(journal)
         }
-        Err(_) => Err(Untold::Plant),
+        Err(_) => Err(RowFault::Plant),
     }
 }

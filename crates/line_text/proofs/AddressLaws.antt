@@ -132,7 +132,7 @@ grown_is value (Ok n) address h = (n, refl, cc)
 to_right : (a b c d : List ℕ) → a ++ 46 ∷ b ++ 46 ∷ c ++ 46 ∷ d ≡ a ++ 46 ∷ (b ++ 46 ∷ (c ++ 46 ∷ d))
 to_right a b c d = simp append_assoc
 
--- four numbers, each before what stands behind its dot
+-- four numbers, each before what stands after its dot
 four : (word one two three a b c d : List ℕ) → word ≡ a ++ 46 ∷ one → one ≡ b ++ 46 ∷ two → two ≡ c ++ 46 ∷ three → three ≡ d → word ≡ a ++ 46 ∷ b ++ 46 ∷ c ++ 46 ∷ d
 four word one two three a b c d first second third last =
     first ∙ (λ i. a ++ 46 ∷ second i) ∙ (λ i. a ++ 46 ∷ (b ++ 46 ∷ third i)) ∙ (λ i. a ++ 46 ∷ (b ++ 46 ∷ (c ++ 46 ∷ last i))) ∙ sym (to_right a b c d)

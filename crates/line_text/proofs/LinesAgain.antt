@@ -43,7 +43,7 @@ pub adds_append : {S : Type 0} (add : S → List (List ℕ) → Result S Kind) (
 adds_append add s t u [] ys a b = subst (λ v. Adds add v ys u) (sym a) b
 adds_append add s t u (x ∷ xs) ys a b = (a.0, a.1, adds_append add a.0 t u xs ys a.2 b)
 
--- the lines of a list, each behind those before it
+-- the lines of a list, each after those before it
 pub adds_each : {S X : Type 0} (add : S → List (List ℕ) → Result S Kind) (line : X → List (List ℕ)) (state : List X → S) (front rest : List X)
     → ((a : List X) (x : X) (b : List X) → a ++ x ∷ b ≡ front ++ rest → add (state a) (line x) ≡ Ok (state (a ++ x ∷ []))) → Adds add (state front) (map line rest) (state (front ++ rest))
 adds_each add line state front [] step = ap state (sym (append-nil front))

@@ -8,7 +8,7 @@ use Rattle.lab_base.specs.Kinds.{both_of}
 use Rattle.lab_base.specs.Parts.{all_of, joined_to}
 use Rattle.lab_base.specs.declared.fault.Kind.{Kind}
 use Rattle.lab_base.specs.declared.fault.Kind.TheVariants as kinds
-use Rattle.line_text.specs.Fields.{counts, list_behind}
+use Rattle.line_text.specs.Fields.{counts, list_after}
 
 -- two parts that are read are each read
 pub both_read : {A B : Type 0} (a : Result A Kind) (b : Result B Kind) (x : A) (y : B) → both_of a b ≡ Ok (x, y) → (a ≡ Ok x) × (b ≡ Ok y)
@@ -42,7 +42,7 @@ all_read read so_far (field ∷ fields) xs h =
     record { front = now.front; is = now.is; count = omega (arith, later.count, now.count) }
 
 -- a list of at most so many values
-pub list_few : {X : Type 0} (n least most : ℕ) (read : List ℕ → Result X Kind) (fields : List (List ℕ)) (xs : List X) → list_behind n least most read fields ≡ Ok xs → length xs ≤ most
+pub list_few : {X : Type 0} (n least most : ℕ) (read : List ℕ → Result X Kind) (fields : List (List ℕ)) (xs : List X) → list_after n least most read fields ≡ Ok xs → length xs ≤ most
 list_few {X} n least most read fields xs h = by (counts (n + least) (n + most) fields) refl h
   where
     by : (b : Bool) → counts (n + least) (n + most) fields ≡ b → cond b (all_of read (Ok []) (drop n fields)) (Err kinds.Fields) ≡ Ok xs → length xs ≤ most

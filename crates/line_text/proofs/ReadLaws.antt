@@ -1,4 +1,4 @@
--- Reading on behind some lines.
+-- Reading on after some lines.
 use Rattle.line_text.specs.declared.line_fault.LineFault.{LineFault}
 use Rattle.line_text.specs.declared.line_fault.LineFault.TheVariants as line_faults
 use Rattle.line_text.specs.Refusals.{Takes, Reads, ReadsInto, refused_at}

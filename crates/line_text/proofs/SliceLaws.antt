@@ -1,4 +1,4 @@
--- Fields behind slices.
+-- Fields after slices.
 use Rattle.std.proofs.Common.{◌≡◌, ℕ, suc, ◌+◌, ◌-◌, Bool, not, cond, ltb, List, [], ◌∷◌, length, take, drop, map, Some, None, refl, sym, ap, arith, length-drop, Bor}
 use Rattle.std.specs.List.{position, prefix_len}
 use Rattle.std.proofs.lemmas.List.{length-map, take-map, drop-map, take_all}

@@ -38,7 +38,7 @@ abbrev pub grown : ℕ → Result ℕ Kind → Result ℕ Kind
 grown value (Ok n) = Ok (value * 256 + n)
 grown value (Err kind) = Err kind
 
--- a number, a dot, and what is read behind it
+-- a number, a dot, and what is read after it
 abbrev pub dotted : (ℕ → List ℕ → Result ℕ Kind) → ℕ → Option (List ℕ × List ℕ) → Result ℕ Kind
 dotted next value None = Err kinds.Number
 dotted next value (Some parts) = and_then (grown value (octet 0 255 parts.0)) (λ n. next n parts.1)

@@ -11,6 +11,6 @@ field_at fields n = slice_index_or fields n []
 abbrev pub counts : ℕ → ℕ → List (List ℕ) → Bool
 counts least most fields = nat_le least (length fields) && nat_le (length fields) most
 
--- behind the first n fields a list of `least` to `most` fields, each read in the same way
-abbrev pub list_behind : {X : Type 0} → ℕ → ℕ → ℕ → (List ℕ → Result X Kind) → List (List ℕ) → Result (List X) Kind
-list_behind n least most read fields = if counts (n + least) (n + most) fields then all_of read (Ok []) (drop n fields) else Err kinds.Fields
+-- after the first n fields a list of `least` to `most` fields, each read in the same way
+abbrev pub list_after : {X : Type 0} → ℕ → ℕ → ℕ → (List ℕ → Result X Kind) → List (List ℕ) → Result (List X) Kind
+list_after n least most read fields = if counts (n + least) (n + most) fields then all_of read (Ok []) (drop n fields) else Err kinds.Fields

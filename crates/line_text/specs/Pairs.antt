@@ -11,7 +11,7 @@ use Rattle.lab_base.specs.declared.fault.Kind.TheVariants as kinds
 abbrev pub has_byte : ℕ → List ℕ → Bool
 has_byte at field = is_some (parted_at at field)
 
--- the parts of a field before the byte and behind it, where it stands there once
+-- the parts of a field before the byte and after it, where it stands there once
 abbrev pub with_one : ℕ → List ℕ × List ℕ → Option (List ℕ × List ℕ)
 with_one at parts = if has_byte at parts.1 then None else Some parts
 

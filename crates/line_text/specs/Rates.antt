@@ -36,6 +36,6 @@ rates_of limits kbps micros ppm =
 abbrev pub rates_at : RateLimits → List (List ℕ) → ℕ → Result Rates Kind
 rates_at limits fields n = rates_of limits (field_at fields n) (field_at fields (n + 1)) (field_at fields (n + 2))
 
--- those there, and behind them those back
+-- those there, and after them those back
 abbrev pub both_rates_at : RateLimits → List (List ℕ) → ℕ → Result (Rates × Rates) Kind
 both_rates_at limits fields n = both_of (rates_at limits fields n) (rates_at limits fields (n + 3))

@@ -18,12 +18,12 @@ at_line n (Err kind) = Err (record { line = n; kind = kind })
 abbrev pub line_added : {S : Type 0} → (S → List (List ℕ) → Result S Kind) → S → List ℕ → Result S Kind
 line_added add s line = if is_skipped (fields_of line) then Ok s else add s (fields_of line)
 
--- line n behind what is read so far
+-- line n after what is read so far
 abbrev pub with_line : {S : Type 0} → (S → List (List ℕ) → Result S Kind) → ℕ → Result S TextFault → List ℕ → Result S TextFault
 with_line add n (Err fault) line = Err fault
 with_line add n (Ok s) line = at_line n (line_added add s line)
 
--- lines n, n + 1, .. behind what is read so far: what they give, or the fault of the first line that has one
+-- lines n, n + 1, .. after what is read so far: what they give, or the fault of the first line that has one
 abbrev pub read_from : {S : Type 0} → (S → List (List ℕ) → Result S Kind) → ℕ → Result S TextFault → List (List ℕ) → Result S TextFault
 read_from add n so_far [] = so_far
 read_from add n so_far (line ∷ lines) = read_from add (n + 1) (with_line add n so_far line) lines

@@ -27,8 +27,8 @@ pub fn counts(fields: &[&[u8]], least: usize, most: usize) -> bool
     least <= fields.len() && fields.len() <= most
 }
 
-/// The fields behind the first n.
-pub fn fields_behind<'a, 'b>(fields: &'b [&'a [u8]], n: usize) -> &'b [&'a [u8]]
+/// The fields after the first n.
+pub fn fields_after<'a, 'b>(fields: &'b [&'a [u8]], n: usize) -> &'b [&'a [u8]]
     requires { n ≤ length fields.now }
     ensures { views result.now ≡ drop n (views fields.now) }
 {

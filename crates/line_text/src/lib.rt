@@ -11,7 +11,7 @@ mod rates;
 mod reading;
 
 pub use address::address_in;
-pub use fields::{counts, field_at, fields_behind, name_at};
+pub use fields::{counts, field_at, fields_after, name_at};
 pub use line_fault::{LineFault, refusal};
 pub use numbers::{short_in, weight_in};
 pub use pairs::{has_byte, numbered_short, numbered_weight, pair_in};

@@ -69,7 +69,7 @@ fn push_rates(text: &mut Text, rates: Rates) -> Result<(), Memory>
     push_count(text, u64::from(rates.ppm))
 }
 
-/// The rates there and back, each number behind a space.
+/// The rates there and back, each number after a space.
 pub fn push_both_rates(text: &mut Text, there: Rates, back: Rates) -> Result<(), Memory>
     ensures text { OnOk result (text.new ≡ text.old ++ spaced (rates_fields there ++ rates_fields back)) }
     ensures there { OnOk result (are_held there ≡ true) }

@@ -43,7 +43,7 @@ fn add_line<S: AddLine>(alloc: Global, line: &[u8], so_far: &mut S) -> Result<()
     so_far.add(alloc, &fields)
 }
 
-/// Adds the lines of a text to a reader's state, and answers the number behind the last line.
+/// Adds the lines of a text to a reader's state, and answers the number after the last line.
 /// The first line with a fault ends it. After an error drop the state.
 pub fn read_lines<S: AddLine>(
     alloc: Global,

@@ -75,10 +75,10 @@ again_exchanged lab free w m x v u touched h =
     let x2 : Mapping = placed_at x1 u q in
     let u_lt1 : u < length m1.places = omega (arith, u_lt, length-set m.places v p) in
     let u_lt_x1 : u < length x1.places = omega (arith, u_lt_x, length-set x.places v p) in
-    let after_x : AlikeOn a b (swapped m v u) (set (set x.places v p) u q) = alike_after a b m1.places x1.places u q (alike_after a b m.places x.places v p r.guests v_lt) u_lt1 in
+    let after_x : AlikeOn a b (swapped m v u) (set (set x.places v p) u q) = alike_after a b m1.places x1.places u q (alike_after a b m.places x.places v p r.hosted v_lt) u_lt1 in
     let after = subst (λ (l : List Place). AlikeOn a b (swapped m v u) l) x_places after_x in
     let two_x = subst (λ (l : List Place). AlikeBut a b l x.places) (sym x_places) two in
-    let nodes = node_softs_add lab w m m2 x x2 a b (record { one = one; two = two_x; before = r.guests; after = after_x }) new_within.placed in
+    let nodes = node_softs_add lab w m m2 x x2 a b (record { one = one; two = two_x; before = r.hosted; after = after_x }) new_within.placed in
     let soft_m1 = soft_after lab w m v p v_w v_lt in
     let soft_m2 = soft_after lab w m1 u q u_w u_lt1 in
     let soft_x1 = soft_after lab w x v p v_w v_lt_x in
@@ -109,7 +109,7 @@ again_exchanged lab free w m x v u touched h =
       frame = record {
         one = one;
         two = two;
-        before = r.guests;
+        before = r.hosted;
         after = after;
         switches = r.switches;
         untouched = λ s e unmarked in_s. elim (r.untouched s e unmarked in_s) [ inl off ↦ inl (off_after e off) | inr keeps ↦ inr keeps ];

@@ -6,7 +6,7 @@ use Rattle.virt_topo.specs.declared.wiring.VirtNode.{VirtNode}
 use Rattle.virt_topo.specs.declared.wiring.Wiring.{Wiring}
 use Rattle.virt_topo.specs.declared.mapping.Mapping.{Mapping}
 use Rattle.lab_model.specs.Shapes.{Place, node_at}
-use Rattle.lab_model.specs.Rules.{agree, guests, Guest, keeps_f7}
+use Rattle.lab_model.specs.Rules.{agree, hosted, HostedNode, keeps_f7}
 use Rattle.lab_model.specs.Feasible.{AllPass}
 use Rattle.node_maps.specs.Moved.{may_share}
 use Rattle.map_anneal.proofs.Shares.{OneTry}
@@ -14,19 +14,19 @@ use Rattle.map_anneal.proofs.Frames.{IsOff, AlikeOn}
 use Rattle.map_anneal.proofs.SwitchLaws.{f7_alike}
 
 -- each of the two nodes has the same virtual nodes
-pub guests_on : (vs : List VirtNode) (places others : List Place) (a b n : ℕ) → AlikeOn a b places others → (n ≡ a) ⊎ (n ≡ b) → guests vs places n ≡ guests vs others n
+pub guests_on : (vs : List VirtNode) (places others : List Place) (a b n : ℕ) → AlikeOn a b places others → (n ≡ a) ⊎ (n ≡ b) → hosted vs places n ≡ hosted vs others n
 guests_on [] places others a b n alike here = refl
 guests_on (v ∷ vs) [] [] a b n alike here = refl
 guests_on (v ∷ vs) [] (q ∷ others) a b n alike here = absurd (let count = alike.count in omega (arith, count))
 guests_on (v ∷ vs) (p ∷ places) [] a b n alike here = absurd (let count = alike.count in omega (arith, count))
 guests_on (v ∷ vs) (p ∷ places) (q ∷ others) a b n alike here =
     let count = alike.count in
-    let rest : guests vs places n ≡ guests vs others n = guests_on vs places others a b n (record { count = omega (arith, count); each = λ k d lt. alike.each (suc k) d (omega (arith, lt)) }) here in
-    let none : (x : Place) (gs : List Guest) → IsOff a b x → cond (eqb x.0.0 n) ((x.1, v.os) ∷ gs) gs ≡ gs = λ x gs off.
+    let rest : hosted vs places n ≡ hosted vs others n = guests_on vs places others a b n (record { count = omega (arith, count); each = λ k d lt. alike.each (suc k) d (omega (arith, lt)) }) here in
+    let none : (x : Place) (gs : List HostedNode) → IsOff a b x → cond (eqb x.0.0 n) ((x.1, v.os) ∷ gs) gs ≡ gs = λ x gs off.
     cond-false (eqb x.0.0 n) ((x.1, v.os) ∷ gs) gs (ne_eqb x.0.0 n (λ e. elim here [ inl is ↦ off.0 (e ∙ is) | inr is ↦ off.1 (e ∙ is) ])) in
     elim (alike.each 0 p (omega arith)) [
       | inl same ↦ (λ i. cond (eqb (same i).0.0 n) (((same i).1, v.os) ∷ rest i) (rest i))
-      | inr both ↦ none p (guests vs places n) both.0 ∙ rest ∙ sym (none q (guests vs others n) both.1)
+      | inr both ↦ none p (hosted vs places n) both.0 ∙ rest ∙ sym (none q (hosted vs others n) both.1)
     ]
 
 -- F2 of the two nodes

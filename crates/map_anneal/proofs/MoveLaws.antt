@@ -59,7 +59,7 @@ again_moved lab free w m x v p touched h =
     let m_within = choice_within lab free w m.places h.first.choice in
     let x_within = choice_within lab free w x.places h.second.choice in
     let lt : v < length m.places = (let c = m_within.placed in let within = r.within in omega (arith, c, within)) in
-    let x_lt : v < length x.places = (let c = r.guests.count in omega (arith, c, lt)) in
+    let x_lt : v < length x.places = (let c = r.hosted.count in omega (arith, c, lt)) in
     let here : v < length (candidates lab free w) = (let c = h.first.choice.one_each in omega (arith, c, lt)) in
     let m_choice = choice_moved (candidates lab free w) m.places v p h.first.choice here h.among in
     let x_choice = choice_moved (candidates lab free w) x.places v p h.second.choice here h.among in
@@ -68,10 +68,10 @@ again_moved lab free w m x v p touched h =
     let at_x : get_or (set x.places v p) v no_place ≡ p = get_or-set_same x.places v p no_place x_lt in
     let one = alike_moved m.places v p lt in
     let two : AlikeBut a b (set x.places v p) x.places = subst (λ (q : Place). AlikeBut a q.0.0 (set x.places v p) x.places) (sym r.same) (alike_moved x.places v p x_lt) in
-    let after = alike_after a b m.places x.places v p r.guests lt in
+    let after = alike_after a b m.places x.places v p r.hosted lt in
     let n : Mapping = placed_at m v p in
     let y : Mapping = placed_at x v p in
-    let nodes = node_softs_add lab w m n x y a b (record { one = one; two = two; before = r.guests; after = after }) new_within.placed in
+    let nodes = node_softs_add lab w m n x y a b (record { one = one; two = two; before = r.hosted; after = after }) new_within.placed in
     let soft_m = soft_after lab w m v p r.within lt in
     let soft_x = soft_after lab w x v p r.within x_lt in
     let own : ◌≡◌ {A = ℕ} (missed (virt_at w v).desires (node_at lab (place_at m v).0).features + missed (node_at lab (place_at m v).0).features (virt_at w v).desires)
@@ -94,7 +94,7 @@ again_moved lab free w m x v p touched h =
       frame = record {
         one = one;
         two = two;
-        before = r.guests;
+        before = r.hosted;
         after = after;
         switches = r.switches;
         untouched = λ s e unmarked in_s. elim (r.untouched s e unmarked in_s) [ inl off ↦ inl (off_after s e off) | inr keeps ↦ inr keeps ];

@@ -16,7 +16,7 @@ use Rattle.map_anneal.proofs.Frames.{IsOff, AlikeOn, end_place, KeepsSwitch}
 pub record ReadAlike (lab : Lab) (w : Wiring) (m x : Mapping) (v : ℕ) (p : Place) (touched : ℕ → Bool) : Type 0 where
   pub within : v < length w.nodes
   pub same : place_at m v ≡ place_at x v
-  pub guests : AlikeOn p.0.0 (place_at m v).0.0 m.places x.places
+  pub hosted : AlikeOn p.0.0 (place_at m v).0.0 m.places x.places
   pub switches : (s : ℕ) → s < length w.segments → touched s ≡ true → AreAlikeAt lab w m x s
   pub untouched : (s e : ℕ) → touched s ≡ false → IsIn w.segments s e → IsOff p.0.0 (place_at m v).0.0 (end_place w m.places e) ⊎ KeepsSwitch lab w m (slice_set m.places v p) e
   pub taken : asked_soft w m (virt_at w v).asks p.1 ≡ asked_soft w x (virt_at w v).asks p.1
@@ -38,7 +38,7 @@ pub record ExchangeAlike (lab : Lab) (w : Wiring) (m x : Mapping) (v u : ℕ) (t
   pub apart : v ≡ u → ⊥
   pub same_v : place_at m v ≡ place_at x v
   pub same_u : place_at m u ≡ place_at x u
-  pub guests : AlikeOn (place_at m v).0.0 (place_at m u).0.0 m.places x.places
+  pub hosted : AlikeOn (place_at m v).0.0 (place_at m u).0.0 m.places x.places
   pub switches : (s : ℕ) → s < length w.segments → touched s ≡ true → AreAlikeAt lab w m x s
   pub untouched : (s e : ℕ) → touched s ≡ false → IsIn w.segments s e
       → IsOff (place_at m v).0.0 (place_at m u).0.0 (end_place w m.places e) ⊎ KeepsSwitch lab w m (slice_set (slice_set m.places v (place_at m u)) u (place_at m v)) e

@@ -13,7 +13,7 @@ use Rattle.node_maps.specs.Marked.{marks_of}
 use Rattle.node_maps.specs.Rooms.{room_of}
 use Rattle.node_maps.proofs.Assembled.{parts_of_map}
 use Rattle.node_maps.proofs.MapLaws.{mapped_is}
-use Rattle.map_state.specs.Hosted.{IsFull, guests_at}
+use Rattle.map_state.specs.Hosted.{IsFull, hosted_at}
 use Rattle.map_state.proofs.StateLaws.{shaped_at}
 use Rattle.map_state.proofs.FullLaws.{overfull}
 use Rattle.map_state.proofs.HostingLaws.{guest_more}
@@ -37,7 +37,7 @@ full_no_less s m v below p shaped lt node typed full plugs kept =
     let there : get_or (set m.places v p) v no_place ≡ p = get_or-set_same m.places v p no_place lt in
     let more = guest_more m.places v p lt full.0 in
     let most = full.1 in
-    let on : ◌≡◌ {A = ℕ} (guests_at (set m.places v p) (get_or (set m.places v p) v no_place).0.0) (guests_at (set m.places v p) p.0.0) = ap (λ (q : Place). guests_at (set m.places v p) q.0.0) there in
+    let on : ◌≡◌ {A = ℕ} (hosted_at (set m.places v p) (get_or (set m.places v p) v no_place).0.0) (hosted_at (set m.places v p) p.0.0) = ap (λ (q : Place). hosted_at (set m.places v p) q.0.0) there in
     let allowed : ◌≡◌ {A = ℕ} (number_of (node_at s.lab (get_or (set m.places v p) v no_place).0).types (get_or (set m.places v p) v no_place).1) (number_of (node_at s.lab p.0).types p.1) = ap (λ (q : Place). number_of (node_at s.lab q.0).types q.1) there in
     let after = shaped_at s.lab s.wiring m v p shaped node typed in
     let within : v < length (set m.places v p) = omega (arith, lt, length-set m.places v p) in

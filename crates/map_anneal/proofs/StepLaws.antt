@@ -11,7 +11,7 @@ use Rattle.virt_topo.specs.Soundness.{IsSound}
 use Rattle.lab_model.specs.Shapes.{Place}
 use Rattle.lab_model.specs.Rules.{is_member, no_place, place_at}
 use Rattle.node_maps.specs.declared.ends.End.{End}
-use Rattle.node_maps.specs.NodeMaps.{end_of, ends_from, ends_of}
+use Rattle.node_maps.specs.NodeMaps.{segment_end, ends_from, ends_of}
 use Rattle.node_maps.proofs.EndLists.{same_length}
 use Rattle.node_maps.proofs.MapLaws.{mapped_is, choice_within}
 use Rattle.node_maps.proofs.Shaped.{shaped}
@@ -31,14 +31,14 @@ use Rattle.map_anneal.proofs.TypeLaws.{soft_alike, soft_now}
 segment_from : (n : ℕ) (segments : List Segment) (s e : ℕ) (d : End) → IsIn segments s e → (get_or (ends_from n segments) e d).segment ≡ n + s
 segment_from n [] s e d is = absurd (let lt = is.segment in omega (arith, lt))
 segment_from n (x ∷ segments) zero e d is =
-    let own = map (end_of n x) x.ends in
+    let own = map (segment_end n x) x.ends in
     let lt : e < length x.ends = (let below = is.below in omega (arith, below)) in
-    let count = length-map x.ends (end_of n x) in
+    let count = length-map x.ends (segment_end n x) in
     let here : ◌≡◌ {A = ℕ} n (n + 0) = omega arith in
-    ap (λ (y : End). y.segment) (get_or-append own (ends_from (n + 1) segments) d e (omega (arith, lt, count)) ∙ get_or-map (end_of n x) x.ends e (record { node = 0; address = None }) d lt) ∙ here
+    ap (λ (y : End). y.segment) (get_or-append own (ends_from (n + 1) segments) d e (omega (arith, lt, count)) ∙ get_or-map (segment_end n x) x.ends e (record { node = 0; address = None }) d lt) ∙ here
 segment_from n (x ∷ segments) (suc s) e d is =
-    let own = map (end_of n x) x.ends in
-    let count = length-map x.ends (end_of n x) in
+    let own = map (segment_end n x) x.ends in
+    let count = length-map x.ends (segment_end n x) in
     let segment = is.segment in
     let from = is.from in
     let below = is.below in
@@ -75,7 +75,7 @@ reads_alike s x y still v p h =
     record {
       within = h.within;
       same = same;
-      guests = record {
+      hosted = record {
         count = x_all ∙ sym y_all;
         each = λ u d lt.
             let u_in : u < length w.nodes = omega (arith, lt, x_all) in

@@ -10,7 +10,7 @@ use Rattle.map_anneal.specs.declared.priced.Priced.{Priced}
 use Rattle.map_anneal.specs.declared.walk.Walk.{Walk}
 use Rattle.map_anneal.specs.Sought.{Sought, price}
 use Rattle.map_anneal.specs.Searches.{IsPriced}
-use Rattle.map_anneal.specs.Walk.{Walker, Drawn, drawn, named, found, added, one_try}
+use Rattle.map_anneal.specs.Walk.{Walker, Drawn, drawn, named, found, after_change, one_try}
 use Rattle.map_anneal.specs.Walks.{Keeps}
 
 -- the try adds this map
@@ -37,11 +37,11 @@ found_none s heat last d over = by (named s last d.first d.second) refl
 
 -- the walk after a try that found this
 pub after_try : (s : Sought) (heat : ℕ) (x : Walker) (old : Walk) (o : Option Mapping) → Keeps s old x → found s heat old.last.state.mapping (drawn old.generator) ≡ o
-    → one_try s heat x ≡ added x (drawn old.generator).after o
+    → one_try s heat x ≡ after_change x (drawn old.generator).after o
 after_try s heat x old o keeps e =
-    ap (λ w. added x (drawn w).after (found s heat x.last (drawn w))) (sym keeps.words)
-    ∙ ap (λ m. added x (drawn old.generator).after (found s heat m (drawn old.generator))) (sym keeps.last)
-    ∙ ap (λ f. added x (drawn old.generator).after f) e
+    ap (λ w. after_change x (drawn w).after (found s heat x.last (drawn w))) (sym keeps.words)
+    ∙ ap (λ m. after_change x (drawn old.generator).after (found s heat m (drawn old.generator))) (sym keeps.last)
+    ∙ ap (λ f. after_change x (drawn old.generator).after f) e
 
 pub keeps_added : (s : Sought) (heat : ℕ) (x : Walker) (old new : Walk) (m : Mapping) → Keeps s old x → found s heat old.last.state.mapping (drawn old.generator) ≡ Some m
     → new.generator ≡ (drawn old.generator).after → new.last.state.mapping ≡ m → IsFirstLeast (price s) (x.maps ++ m ∷ []) new.best.mapping

@@ -28,9 +28,9 @@ abbrev pub accepted : Sought → ℕ → Mapping → ℕ → Option Mapping → 
 accepted s heat last w3 found =
     option_and_then (λ m. if nat_le (price s m) (price s last + (w3 % 1024) * heat / 1024) then Some m else None) found
 
-abbrev pub added : Walker → Lcg → Option Mapping → Walker
-added x words None = record { maps = x.maps; last = x.last; words = words }
-added x words (Some m) = record { maps = x.maps ++ m ∷ []; last = m; words = words }
+abbrev pub after_change : Walker → Lcg → Option Mapping → Walker
+after_change x words None = record { maps = x.maps; last = x.last; words = words }
+after_change x words (Some m) = record { maps = x.maps ++ m ∷ []; last = m; words = words }
 
 -- the words that a try draws, and the generator after it
 pub record Drawn : Type 0 where
@@ -51,7 +51,7 @@ abbrev pub found : Sought → ℕ → Mapping → Drawn → Option Mapping
 found s heat last d = accepted s heat last d.third (named s last d.first d.second)
 
 abbrev pub one_try : Sought → ℕ → Walker → Walker
-one_try s heat x = added x (drawn x.words).after (found s heat x.last (drawn x.words))
+one_try s heat x = after_change x (drawn x.words).after (found s heat x.last (drawn x.words))
 
 -- so many tries at this heat
 unfoldable pub tries : Sought → ℕ → ℕ → Walker → Walker

@@ -11,7 +11,7 @@ ghost use Rattle.cost_rule.specs.declared.rule.RuleNumber.{RuleNumber as NumberS
 ghost use Rattle.cost_rule.specs.Parts.{cost_of_parts, AreParts, HangsOnNoUses};
 ghost use Rattle.node_maps.specs.NodeMaps.{candidates, node_map, plugs_of};
 ghost use Rattle.map_state.specs.States.{IsFeasibleState, IsMapState, IsPlanned, Was};
-ghost use Rattle.map_state.specs.Members.{asked_place};
+ghost use Rattle.map_state.specs.Members.{asked_index};
 ghost use Rattle.map_state.specs.Hosted.{placed_at};
 ghost use Rattle.map_state.specs.Tables.{IsSearch};
 ghost use Rattle.map_anneal.specs.Sought.{choices, candidates_at, moved, exchanged, price};
@@ -185,7 +185,7 @@ impl Tried {
         ensures soft { result.parts.soft
             ≡ soft_in search.now.mapper.lab.now search.now.mapper.wiring.now (placed_at self.now.state.mapping node place.now) }
         ensures counted { result.counted
-            ≡ asked_place search.now.mapper.wiring.now (virt_at search.now.mapper.wiring.now node).asks place.now.1 }
+            ≡ asked_index search.now.mapper.wiring.now (virt_at search.now.mapper.wiring.now node).asks place.now.1 }
     {
         if !self.ignores_uses {
             if let Some(told) = self.state.predict(search, node, place) {
@@ -238,11 +238,12 @@ impl Tried {
             soft: least.parts.soft,
             counted: least.counted,
         };
-        self.state.place_known(alloc, search, node, *place, after);
+        self.state
+            .place_predicted(alloc, search, node, *place, after);
         if self.commit_if_cheaper(alloc, search, rule, (to, node), (old.0, node), below, told)? {
             return Ok(true);
         }
-        self.state.place_known(alloc, search, node, old, before);
+        self.state.place_predicted(alloc, search, node, old, before);
         Ok(false)
     }
 

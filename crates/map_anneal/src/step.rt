@@ -18,7 +18,7 @@ use phys_lab::Lab;
 use std::alloc::Global;
 use virt_topo::{Asks, MAX_ENDS, Mapping, Wiring};
 
-/// Whether a place of a list is marked; those behind its end are.
+/// Whether a place of a list is marked; those beyond its end are.
 pub(crate) fn is_marked(marks: &[bool], number: u16) -> bool
     ensures { result ≡ slice_index_or marks.now number true }
 {

@@ -16,7 +16,7 @@ use virt_topo::Mapping;
 pub struct Tried {
     pub state: MapState,
     pub cost: u64,
-    /// Of the last move that came to nothing, whether it makes no cheaper map whatever is left of the trunks.
+    /// Whether the last refused move makes no cheaper map, whatever is left of the trunks. A descent passes over such moves.
     pub(crate) ruled_out: bool,
     /// Whether the cost rule is known to ignore the uses of trunks.
     pub(crate) ignores_uses: bool,
@@ -68,7 +68,7 @@ impl Tried {
         Ok(())
     }
 
-    /// The mapping, taken behind another one: the rule's step from that one answers its cost.
+    /// The mapping, taken after another one: the rule's step from that one answers its cost.
     pub fn taken(
         &self,
         alloc: Global,

@@ -71,7 +71,13 @@ fn keep_cheaper(alloc: Global, best: &mut Priced, next: &Tried) -> Result<(), Me
 }
 
 /// The map that a walk gives. Where it isn't the start, the rule's step from there tells its cost.
-fn told(search: &Search, rule: &StepRule, start: &Mapping, from: u64, best: Priced) -> Priced
+fn priced_by_steps(
+    search: &Search,
+    rule: &StepRule,
+    start: &Mapping,
+    from: u64,
+    best: Priced,
+) -> Priced
     requires search { IsSearch search.now }
     requires start { IsNodeMap (sought_of search.now rule.now.number) start.now }
     requires from { from ≡ price (sought_of search.now rule.now.number) start.now }
@@ -198,7 +204,7 @@ pub fn anneal_by(
     let Walk { best, last, .. } = walk;
     drop(last);
     cooled?;
-    let lowest = told(search, rule, start, cost, best);
+    let lowest = priced_by_steps(search, rule, start, cost, best);
     Ok(lowest.mapping)
 }
 

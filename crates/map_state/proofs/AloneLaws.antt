@@ -10,7 +10,7 @@ use Rattle.lab_model.specs.Rules.{no_place, Laid}
 use Rattle.node_maps.specs.declared.ends.End.{End}
 use Rattle.node_maps.specs.NodeMaps.{load_of, first_iface, with_plug, laid_from, plugs_in, plugs_from}
 use Rattle.map_state.specs.Nodes.{is_on, no_end}
-use Rattle.map_state.specs.Hosted.{guests_at}
+use Rattle.map_state.specs.Hosted.{hosted_at}
 use Rattle.map_state.proofs.StateLaws.{own_on}
 use Rattle.map_state.proofs.WhereLaws.{numbered_ends}
 
@@ -45,14 +45,14 @@ passed On p (e ∷ es) each = by_test (p e) refl (passed On p es (λ k d lt pass
     by_test false is rest k d lt = rest k d lt
 
 -- the ends on a node that a virtual node has alone are its own
-own_ends : (n v : ℕ) (places : List Place) (es : List End) → All (λ (e : End). e.node < length places) es → v < length places → (get_or places v no_place).0.0 ≡ n → guests_at places n ≡ 1
+own_ends : (n v : ℕ) (places : List Place) (es : List End) → All (λ (e : End). e.node < length places) es → v < length places → (get_or places v no_place).0.0 ≡ n → hosted_at places n ≡ 1
     → filter (is_on places n) es ≡ filter (λ e. e.node == v) es
 own_ends n v places es placed lt here one =
     sym (numbered_ends es (is_on places n) no_end) ∙ ap (λ (l : List ℕ). map (λ k. get_or es k no_end) l) (sym (own_on n v places es placed lt here one)) ∙ numbered_ends es (λ e. e.node == v) no_end
 
 -- THE PLAN of a virtual node that is alone on a node, by whatever places
 pub alone_plan : (lab : Lab) (es : List End) (places others : List Place) (v n : ℕ) → All (λ (e : End). e.node < length places) es → All (λ (e : End). e.node < length others) es
-    → v < length places → v < length others → (get_or places v no_place).0.0 ≡ n → (get_or others v no_place).0.0 ≡ n → guests_at places n ≡ 1 → guests_at others n ≡ 1
+    → v < length places → v < length others → (get_or places v no_place).0.0 ≡ n → (get_or others v no_place).0.0 ≡ n → hosted_at places n ≡ 1 → hosted_at others n ≡ 1
     → plugs_from lab places (filter (is_on places n) es) ≡ plugs_from lab others (filter (is_on others n) es)
 alone_plan lab es places others v n here there lt less on on_too one one_too =
     let own = filter (λ (e : End). e.node == v) es in

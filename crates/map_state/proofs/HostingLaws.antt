@@ -23,7 +23,7 @@ use Rattle.lab_model.specs.Rules.{class_at, no_place, is_member}
 use Rattle.cost_rule.specs.Cost.{sum_below, different, missed, same_node, node_soft, class_soft, types_of, soft}
 use Rattle.cost_rule.proofs.Sums.{sum_same, sum_at}
 use Rattle.cost_rule.proofs.Different.{different_cons, new_if, replaced, some_different}
-use Rattle.map_state.specs.Hosted.{guests_at, kind_soft, asked_soft, placed_at}
+use Rattle.map_state.specs.Hosted.{hosted_at, kind_soft, asked_soft, placed_at}
 
 -- SOFT
 other_node : (lab : Lab) (w : Wiring) (m : Mapping) (v k : ℕ) (p : Place) → k ≢ v → node_soft lab w (placed_at m v p) k ≡ node_soft lab w m k
@@ -157,16 +157,16 @@ soft_alike lab w m v p lt few same =
 
 -- NODES IN USE
 
-abbrev guests : List ℕ → ℕ → ℕ
-guests xs n = count_by (λ (x : ℕ). x == n) xs
+abbrev hosted : List ℕ → ℕ → ℕ
+hosted xs n = count_by (λ (x : ℕ). x == n) xs
 
 abbrev one_if : Bool → ℕ
 one_if b = cond b 1 0
 
-guests_cons : (x : ℕ) (xs : List ℕ) (n : ℕ) → guests (x ∷ xs) n ≡ one_if (eqb x n) + guests xs n
+guests_cons : (x : ℕ) (xs : List ℕ) (n : ℕ) → hosted (x ∷ xs) n ≡ one_if (eqb x n) + hosted xs n
 guests_cons x xs n = sum_by-cons (λ (y : ℕ). cond (eqb y n) 1 0) x xs
 
-guests_removed : (xs : List ℕ) (v d n : ℕ) → v < length xs → guests xs n ≡ guests (remove xs v) n + one_if (eqb (get_or xs v d) n)
+guests_removed : (xs : List ℕ) (v d n : ℕ) → v < length xs → hosted xs n ≡ hosted (remove xs v) n + one_if (eqb (get_or xs v d) n)
 guests_removed [] v d n lt = absurd (omega (arith, lt))
 guests_removed (x ∷ xs) zero d n lt = let step = guests_cons x xs n in omega (arith, step)
 guests_removed (x ∷ xs) (suc v) d n lt =
@@ -181,22 +181,22 @@ removed_set (x ∷ xs) zero y = refl
 removed_set (x ∷ xs) (suc v) y = ap (λ (l : List ℕ). x ∷ l) (removed_set xs v y)
 
 -- one is there where some are counted
-pub any_counted : (y : ℕ) (xs : List ℕ) → cond (list_any (same_node y) xs) 0 1 ≡ one_if (eqb (guests xs y) 0)
+pub any_counted : (y : ℕ) (xs : List ℕ) → cond (list_any (same_node y) xs) 0 1 ≡ one_if (eqb (hosted xs y) 0)
 any_counted y [] = refl
 any_counted y (x ∷ xs) = by (eqb y x) refl (any_counted y xs)
   where
-    by : (b : Bool) → eqb y x ≡ b → cond (list_any (same_node y) xs) 0 1 ≡ one_if (eqb (guests xs y) 0) → cond (eqb y x || list_any (same_node y) xs) 0 1 ≡ one_if (eqb (guests (x ∷ xs) y) 0)
+    by : (b : Bool) → eqb y x ≡ b → cond (list_any (same_node y) xs) 0 1 ≡ one_if (eqb (hosted xs y) 0) → cond (eqb y x || list_any (same_node y) xs) 0 1 ≡ one_if (eqb (hosted (x ∷ xs) y) 0)
     by true is rest =
         let step = guests_cons x xs y in
         let one : ◌≡◌ {A = ℕ} (one_if (eqb x y)) 1 = ap one_if (eqb_turned x y ∙ is) in
-        ap (λ (b : Bool). cond (b || list_any (same_node y) xs) 0 1) is ∙ sym (ap one_if (ne_eqb (guests (x ∷ xs) y) 0 (λ e. absurd (omega (arith, e, step, one)))))
+        ap (λ (b : Bool). cond (b || list_any (same_node y) xs) 0 1) is ∙ sym (ap one_if (ne_eqb (hosted (x ∷ xs) y) 0 (λ e. absurd (omega (arith, e, step, one)))))
     by false is rest =
         let step = guests_cons x xs y in
         let none : ◌≡◌ {A = ℕ} (one_if (eqb x y)) 0 = ap one_if (eqb_turned x y ∙ is) in
-        let same : guests (x ∷ xs) y ≡ guests xs y = omega (arith, step, none) in
+        let same : hosted (x ∷ xs) y ≡ hosted xs y = omega (arith, step, none) in
         ap (λ (b : Bool). cond (b || list_any (same_node y) xs) 0 1) is ∙ rest ∙ ap (λ (n : ℕ). one_if (eqb n 0)) (sym same)
 
-different_removed : (xs : List ℕ) (v d : ℕ) → v < length xs → different same_node xs ≡ different same_node (remove xs v) + one_if (eqb (guests (remove xs v) (get_or xs v d)) 0)
+different_removed : (xs : List ℕ) (v d : ℕ) → v < length xs → different same_node xs ≡ different same_node (remove xs v) + one_if (eqb (hosted (remove xs v) (get_or xs v d)) 0)
 different_removed [] v d lt = absurd (omega (arith, lt))
 different_removed (x ∷ xs) zero d lt = let step = different_cons same_node x xs in let any = any_counted x xs in omega (arith, step, any)
 different_removed (x ∷ xs) (suc v) d lt =
@@ -213,25 +213,25 @@ different_removed (x ∷ xs) (suc v) d lt =
       | inl is ↦ (
           let here : ◌≡◌ {A = ℕ} (one_if (eqb y x)) 1 = ap one_if (eq-eqb y x (sym is)) in
           let there : ◌≡◌ {A = ℕ} (one_if (eqb x y)) 1 = ap one_if (eq-eqb x y is) in
-          let none : ◌≡◌ {A = ℕ} (one_if (eqb (guests xs x) 0)) 0 = ap one_if (ne_eqb (guests xs x) 0 (λ e. absurd (omega (arith, e, count, here)))) in
-          let full : ◌≡◌ {A = ℕ} (one_if (eqb (guests (x ∷ rest) y) 0)) 0 = ap one_if (ne_eqb (guests (x ∷ rest) y) 0 (λ e. absurd (omega (arith, e, more, there)))) in
-          let same : ◌≡◌ {A = ℕ} (one_if (eqb (guests rest x) 0)) (one_if (eqb (guests rest y) 0)) = ap (λ (n : ℕ). one_if (eqb (guests rest n) 0)) is in
+          let none : ◌≡◌ {A = ℕ} (one_if (eqb (hosted xs x) 0)) 0 = ap one_if (ne_eqb (hosted xs x) 0 (λ e. absurd (omega (arith, e, count, here)))) in
+          let full : ◌≡◌ {A = ℕ} (one_if (eqb (hosted (x ∷ rest) y) 0)) 0 = ap one_if (ne_eqb (hosted (x ∷ rest) y) 0 (λ e. absurd (omega (arith, e, more, there)))) in
+          let same : ◌≡◌ {A = ℕ} (one_if (eqb (hosted rest x) 0)) (one_if (eqb (hosted rest y) 0)) = ap (λ (n : ℕ). one_if (eqb (hosted rest n) 0)) is in
           omega (arith, whole, part, any_whole, any_part, later, none, full, same))
       | inr apart ↦ (
           let here : ◌≡◌ {A = ℕ} (one_if (eqb y x)) 0 = ap one_if (ne_eqb y x (λ e. apart (sym e))) in
           let there : ◌≡◌ {A = ℕ} (one_if (eqb x y)) 0 = ap one_if (ne_eqb x y apart) in
-          let at_x : guests xs x ≡ guests rest x = omega (arith, count, here) in
-          let at_y : guests (x ∷ rest) y ≡ guests rest y = omega (arith, more, there) in
-          let same : ◌≡◌ {A = ℕ} (one_if (eqb (guests xs x) 0)) (one_if (eqb (guests rest x) 0)) = ap (λ (n : ℕ). one_if (eqb n 0)) at_x in
-          let same_y : ◌≡◌ {A = ℕ} (one_if (eqb (guests (x ∷ rest) y) 0)) (one_if (eqb (guests rest y) 0)) = ap (λ (n : ℕ). one_if (eqb n 0)) at_y in
+          let at_x : hosted xs x ≡ hosted rest x = omega (arith, count, here) in
+          let at_y : hosted (x ∷ rest) y ≡ hosted rest y = omega (arith, more, there) in
+          let same : ◌≡◌ {A = ℕ} (one_if (eqb (hosted xs x) 0)) (one_if (eqb (hosted rest x) 0)) = ap (λ (n : ℕ). one_if (eqb n 0)) at_x in
+          let same_y : ◌≡◌ {A = ℕ} (one_if (eqb (hosted (x ∷ rest) y) 0)) (one_if (eqb (hosted rest y) 0)) = ap (λ (n : ℕ). one_if (eqb n 0)) at_y in
           omega (arith, whole, part, any_whole, any_part, later, same, same_y))
     ]
 
--- WHAT IS KEPT OF THE PLACES AFTER A VIRTUAL NODE WENT FROM NODE a TO NODE b: g, h and k are the guests by node before, after it
+-- WHAT IS KEPT OF THE PLACES AFTER A VIRTUAL NODE WENT FROM NODE a TO NODE b: g, h and k are the virtual nodes hosted, by node before, after it
 -- left and after it joined, and x, y and z how many nodes are in use then
 pub record Went (n : ℕ) (places : List Place) (v : ℕ) (p : Place) (g h k : List ℕ) (x y z : ℕ) : Type 0 where
   pub one_each : length g ≡ n
-  pub counted : (i : ℕ) → i < n → get_or g i 0 ≡ guests_at places i
+  pub counted : (i : ℕ) → i < n → get_or g i 0 ≡ hosted_at places i
   pub used : x ≡ different same_node (map (λ (q : Place). q.0.0) places)
   pub from : (get_or places v no_place).0.0 < n
   pub to : p.0.0 < n
@@ -243,12 +243,12 @@ pub record Went (n : ℕ) (places : List Place) (v : ℕ) (p : Place) (g h k : L
 abbrev nodes_of : List Place → List ℕ
 nodes_of places = map (λ (q : Place). q.0.0) places
 
-pub guests_of : (places : List Place) (n : ℕ) → guests_at places n ≡ guests (nodes_of places) n
-guests_of [] n = refl
-guests_of (p ∷ places) n =
+pub hosted_of : (places : List Place) (n : ℕ) → hosted_at places n ≡ hosted (nodes_of places) n
+hosted_of [] n = refl
+hosted_of (p ∷ places) n =
     let one = sum_by-cons (λ (q : Place). cond (eqb q.0.0 n) 1 0) p places in
     let other = guests_cons p.0.0 (nodes_of places) n in
-    let rest = guests_of places n in
+    let rest = hosted_of places n in
     omega (arith, one, other, rest)
 
 node_of : (places : List Place) (v : ℕ) → v < length places → get_or (nodes_of places) v 0 ≡ (get_or places v no_place).0.0
@@ -258,48 +258,48 @@ node_of places v lt = get_or-map (λ (q : Place). q.0.0) places v no_place 0 lt
 abbrev others : List Place → ℕ → List ℕ
 others places v = remove (nodes_of places) v
 
--- one guest at least, and what is left without it
-pub guest_left : (places : List Place) (v n : ℕ) → v < length places → guests_at places n ≡ guests (others places v) n + one_if (eqb (get_or places v no_place).0.0 n)
+-- one hosted node at least, and what is left without it
+pub guest_left : (places : List Place) (v n : ℕ) → v < length places → hosted_at places n ≡ hosted (others places v) n + one_if (eqb (get_or places v no_place).0.0 n)
 guest_left places v n lt =
     let count = guests_removed (nodes_of places) v 0 n (omega (arith, lt, length-map places (λ (q : Place). q.0.0))) in
     let at : ◌≡◌ {A = ℕ} (one_if (eqb (get_or (nodes_of places) v 0) n)) (one_if (eqb (get_or places v no_place).0.0 n)) = ap (λ (k : ℕ). one_if (eqb k n)) (node_of places v lt) in
-    omega (arith, guests_of places n, count, at)
+    omega (arith, hosted_of places n, count, at)
 
 pub used_left : (places : List Place) (v : ℕ) → v < length places
-    → different same_node (nodes_of places) ≡ different same_node (others places v) + one_if (eqb (guests (others places v) (get_or places v no_place).0.0) 0)
+    → different same_node (nodes_of places) ≡ different same_node (others places v) + one_if (eqb (hosted (others places v) (get_or places v no_place).0.0) 0)
 used_left places v lt =
     different_removed (nodes_of places) v 0 (omega (arith, lt, length-map places (λ (q : Place). q.0.0)))
-    ∙ ap (λ (k : ℕ). different same_node (others places v) + one_if (eqb (guests (others places v) k) 0)) (node_of places v lt)
+    ∙ ap (λ (k : ℕ). different same_node (others places v) + one_if (eqb (hosted (others places v) k) 0)) (node_of places v lt)
 
 others_set : (places : List Place) (v : ℕ) (p : Place) → others (set places v p) v ≡ others places v
 others_set places v p = ap (λ (l : List ℕ). remove l v) (map-set (λ (q : Place). q.0.0) places v p) ∙ removed_set (nodes_of places) v p.0.0
 
--- a node has one guest more once a virtual node of another one goes there
+-- a node has one hosted node more once a virtual node of another one goes there
 pub guest_more : (places : List Place) (v : ℕ) (p : Place) → v < length places → (get_or places v no_place).0.0 ≢ p.0.0
-    → guests_at (set places v p) p.0.0 ≡ guests_at places p.0.0 + 1
+    → hosted_at (set places v p) p.0.0 ≡ hosted_at places p.0.0 + 1
 guest_more places v p lt apart =
     let n = p.0.0 in
     let before = guest_left places v n lt in
     let after = guest_left (set places v p) v n (omega (arith, lt, length-set places v p)) in
-    let same : ◌≡◌ {A = ℕ} (guests (others (set places v p) v) n) (guests (others places v) n) = ap (λ (l : List ℕ). guests l n) (others_set places v p) in
+    let same : ◌≡◌ {A = ℕ} (hosted (others (set places v p) v) n) (hosted (others places v) n) = ap (λ (l : List ℕ). hosted l n) (others_set places v p) in
     let here : ◌≡◌ {A = ℕ} (one_if (eqb (get_or (set places v p) v no_place).0.0 n)) 1 = ap (λ (q : Place). one_if (eqb q.0.0 n)) (get_or-set_same places v p no_place lt) ∙ ap one_if (eq-eqb n n refl) in
     let gone : ◌≡◌ {A = ℕ} (one_if (eqb (get_or places v no_place).0.0 n)) 0 = ap one_if (ne_eqb (get_or places v no_place).0.0 n apart) in
     omega (arith, before, after, same, here, gone)
 
--- and the node that it leaves has one guest less
+-- and the node that it leaves has one hosted node less
 pub guest_less : (places : List Place) (v : ℕ) (p : Place) → v < length places → (get_or places v no_place).0.0 ≢ p.0.0
-    → guests_at (set places v p) (get_or places v no_place).0.0 + 1 ≡ guests_at places (get_or places v no_place).0.0
+    → hosted_at (set places v p) (get_or places v no_place).0.0 + 1 ≡ hosted_at places (get_or places v no_place).0.0
 guest_less places v p lt apart =
     let n = (get_or places v no_place).0.0 in
     let before = guest_left places v n lt in
     let after = guest_left (set places v p) v n (omega (arith, lt, length-set places v p)) in
-    let same : ◌≡◌ {A = ℕ} (guests (others (set places v p) v) n) (guests (others places v) n) = ap (λ (l : List ℕ). guests l n) (others_set places v p) in
+    let same : ◌≡◌ {A = ℕ} (hosted (others (set places v p) v) n) (hosted (others places v) n) = ap (λ (l : List ℕ). hosted l n) (others_set places v p) in
     let gone : ◌≡◌ {A = ℕ} (one_if (eqb (get_or (set places v p) v no_place).0.0 n)) 0 = ap (λ (q : Place). one_if (eqb q.0.0 n)) (get_or-set_same places v p no_place lt) ∙ ap one_if (ne_eqb p.0.0 n (λ e. apart (sym e))) in
     let own : ◌≡◌ {A = ℕ} (one_if (eqb n n)) 1 = ap one_if (eq-eqb n n refl) in
     omega (arith, before, after, same, gone, own)
 
 -- as many nodes are in use once a virtual node that is alone on its node goes to one that is empty
-pub used_alone : (places : List Place) (v : ℕ) (p : Place) → v < length places → guests_at places (get_or places v no_place).0.0 ≡ 1 → guests_at places p.0.0 ≡ 0
+pub used_alone : (places : List Place) (v : ℕ) (p : Place) → v < length places → hosted_at places (get_or places v no_place).0.0 ≡ 1 → hosted_at places p.0.0 ≡ 0
     → different same_node (nodes_of (set places v p)) ≡ different same_node (nodes_of places)
 used_alone places v p lt alone empty =
     let a = (get_or places v no_place).0.0 in
@@ -308,19 +308,19 @@ used_alone places v p lt alone empty =
     let left_a = guest_left places v a lt in
     let left_b = guest_left places v b lt in
     let own : ◌≡◌ {A = ℕ} (one_if (eqb a a)) 1 = ap one_if (eq-eqb a a refl) in
-    let none_a : guests out a ≡ 0 = omega (arith, left_a, own, alone) in
-    let none_b : guests out b ≡ 0 = omega (arith, left_b, empty) in
-    let flag_a : ◌≡◌ {A = ℕ} (one_if (eqb (guests out a) 0)) 1 = ap one_if (eq-eqb (guests out a) 0 none_a) in
-    let flag_b : ◌≡◌ {A = ℕ} (one_if (eqb (guests out b) 0)) 1 = ap one_if (eq-eqb (guests out b) 0 none_b) in
+    let none_a : hosted out a ≡ 0 = omega (arith, left_a, own, alone) in
+    let none_b : hosted out b ≡ 0 = omega (arith, left_b, empty) in
+    let flag_a : ◌≡◌ {A = ℕ} (one_if (eqb (hosted out a) 0)) 1 = ap one_if (eq-eqb (hosted out a) 0 none_a) in
+    let flag_b : ◌≡◌ {A = ℕ} (one_if (eqb (hosted out b) 0)) 1 = ap one_if (eq-eqb (hosted out b) 0 none_b) in
     let whole = used_left places v lt in
     let whole_after = used_left (set places v p) v (omega (arith, lt, length-set places v p)) in
-    let same : ◌≡◌ {A = ℕ} (different same_node (others (set places v p) v) + one_if (eqb (guests (others (set places v p) v) (get_or (set places v p) v no_place).0.0) 0)) (different same_node out + one_if (eqb (guests out b) 0)) =
-    (λ j. different same_node (others_set places v p j) + one_if (eqb (guests (others_set places v p j) (get_or-set_same places v p no_place lt j).0.0) 0)) in
+    let same : ◌≡◌ {A = ℕ} (different same_node (others (set places v p) v) + one_if (eqb (hosted (others (set places v p) v) (get_or (set places v p) v no_place).0.0) 0)) (different same_node out + one_if (eqb (hosted out b) 0)) =
+    (λ j. different same_node (others_set places v p j) + one_if (eqb (hosted (others_set places v p j) (get_or-set_same places v p no_place lt j).0.0) 0)) in
     omega (arith, whole, whole_after, same, flag_a, flag_b)
 
 -- it goes to another node: one node more is in use where none was there, and one less where it was alone
 pub used_apart : (places : List Place) (v : ℕ) (p : Place) (after : ℕ) → v < length places → (get_or places v no_place).0.0 ≢ p.0.0
-    → after + one_if (eqb (guests_at places (get_or places v no_place).0.0) 1) ≡ different same_node (nodes_of places) + one_if (eqb (guests_at places p.0.0) 0)
+    → after + one_if (eqb (hosted_at places (get_or places v no_place).0.0) 1) ≡ different same_node (nodes_of places) + one_if (eqb (hosted_at places p.0.0) 0)
     → after ≡ different same_node (nodes_of (set places v p))
 used_apart places v p after lt apart is =
     let a = (get_or places v no_place).0.0 in
@@ -330,14 +330,14 @@ used_apart places v p after lt apart is =
     let left_b = guest_left places v b lt in
     let own : ◌≡◌ {A = ℕ} (one_if (eqb a a)) 1 = ap one_if (eq-eqb a a refl) in
     let none : ◌≡◌ {A = ℕ} (one_if (eqb a b)) 0 = ap one_if (ne_eqb a b apart) in
-    let was : guests_at places a ≡ guests out a + 1 = omega (arith, left_a, own) in
-    let there : guests_at places b ≡ guests out b = omega (arith, left_b, none) in
-    let flag_a : ◌≡◌ {A = ℕ} (one_if (eqb (guests_at places a) 1)) (one_if (eqb (guests out a) 0)) = ap (λ (j : ℕ). one_if (eqb j 1)) was ∙ by_count (guests out a) in
-    let flag_b : ◌≡◌ {A = ℕ} (one_if (eqb (guests_at places b) 0)) (one_if (eqb (guests out b) 0)) = ap (λ (j : ℕ). one_if (eqb j 0)) there in
+    let was : hosted_at places a ≡ hosted out a + 1 = omega (arith, left_a, own) in
+    let there : hosted_at places b ≡ hosted out b = omega (arith, left_b, none) in
+    let flag_a : ◌≡◌ {A = ℕ} (one_if (eqb (hosted_at places a) 1)) (one_if (eqb (hosted out a) 0)) = ap (λ (j : ℕ). one_if (eqb j 1)) was ∙ by_count (hosted out a) in
+    let flag_b : ◌≡◌ {A = ℕ} (one_if (eqb (hosted_at places b) 0)) (one_if (eqb (hosted out b) 0)) = ap (λ (j : ℕ). one_if (eqb j 0)) there in
     let whole = used_left places v lt in
     let whole_after = used_left (set places v p) v (omega (arith, lt, length-set places v p)) in
-    let same : ◌≡◌ {A = ℕ} (different same_node (others (set places v p) v) + one_if (eqb (guests (others (set places v p) v) (get_or (set places v p) v no_place).0.0) 0)) (different same_node out + one_if (eqb (guests out b) 0)) =
-    (λ j. different same_node (others_set places v p j) + one_if (eqb (guests (others_set places v p j) (get_or-set_same places v p no_place lt j).0.0) 0)) in
+    let same : ◌≡◌ {A = ℕ} (different same_node (others (set places v p) v) + one_if (eqb (hosted (others (set places v p) v) (get_or (set places v p) v no_place).0.0) 0)) (different same_node out + one_if (eqb (hosted out b) 0)) =
+    (λ j. different same_node (others_set places v p j) + one_if (eqb (hosted (others_set places v p j) (get_or-set_same places v p no_place lt j).0.0) 0)) in
     omega (arith, is, whole, whole_after, same, flag_a, flag_b)
   where
     by_count : (c : ℕ) → one_if (eqb (c + 1) 1) ≡ one_if (eqb c 0)
@@ -345,14 +345,14 @@ used_apart places v p after lt apart is =
     by_count (suc c) = ap one_if (ne_eqb (suc c + 1) 1 (λ e. absurd (omega (arith, e)))) ∙ sym (ap one_if (ne_eqb (suc c) 0 (λ e. absurd (omega (arith, e)))))
 
 -- one that is alone is on a node in use
-pub used_some : (places : List Place) (v : ℕ) → v < length places → one_if (eqb (guests_at places (get_or places v no_place).0.0) 1) ≤ different same_node (nodes_of places)
+pub used_some : (places : List Place) (v : ℕ) → v < length places → one_if (eqb (hosted_at places (get_or places v no_place).0.0) 1) ≤ different same_node (nodes_of places)
 used_some places v lt =
     let a = (get_or places v no_place).0.0 in
     let out = others places v in
     let left_a = guest_left places v a lt in
     let own : ◌≡◌ {A = ℕ} (one_if (eqb a a)) 1 = ap one_if (eq-eqb a a refl) in
-    let was : guests_at places a ≡ guests out a + 1 = omega (arith, left_a, own) in
-    let flag : ◌≡◌ {A = ℕ} (one_if (eqb (guests_at places a) 1)) (one_if (eqb (guests out a) 0)) = ap (λ (j : ℕ). one_if (eqb j 1)) was ∙ by_count (guests out a) in
+    let was : hosted_at places a ≡ hosted out a + 1 = omega (arith, left_a, own) in
+    let flag : ◌≡◌ {A = ℕ} (one_if (eqb (hosted_at places a) 1)) (one_if (eqb (hosted out a) 0)) = ap (λ (j : ℕ). one_if (eqb j 1)) was ∙ by_count (hosted out a) in
     let whole = used_left places v lt in
     omega (arith, flag, whole)
   where
@@ -367,28 +367,28 @@ used_stays places v p lt stays =
     let out = others places v in
     let whole = used_left places v lt in
     let whole_after = used_left (set places v p) v (omega (arith, lt, length-set places v p)) in
-    let same : ◌≡◌ {A = ℕ} (different same_node (others (set places v p) v) + one_if (eqb (guests (others (set places v p) v) (get_or (set places v p) v no_place).0.0) 0)) (different same_node out + one_if (eqb (guests out p.0.0) 0)) =
-    (λ j. different same_node (others_set places v p j) + one_if (eqb (guests (others_set places v p j) (get_or-set_same places v p no_place lt j).0.0) 0)) in
-    let flag : ◌≡◌ {A = ℕ} (one_if (eqb (guests out (get_or places v no_place).0.0) 0)) (one_if (eqb (guests out p.0.0) 0)) = ap (λ (k : ℕ). one_if (eqb (guests out k) 0)) stays in
+    let same : ◌≡◌ {A = ℕ} (different same_node (others (set places v p) v) + one_if (eqb (hosted (others (set places v p) v) (get_or (set places v p) v no_place).0.0) 0)) (different same_node out + one_if (eqb (hosted out p.0.0) 0)) =
+    (λ j. different same_node (others_set places v p j) + one_if (eqb (hosted (others_set places v p j) (get_or-set_same places v p no_place lt j).0.0) 0)) in
+    let flag : ◌≡◌ {A = ℕ} (one_if (eqb (hosted out (get_or places v no_place).0.0) 0)) (one_if (eqb (hosted out p.0.0) 0)) = ap (λ (k : ℕ). one_if (eqb (hosted out k) 0)) stays in
     omega (arith, whole, whole_after, same, flag)
 
 pub guests_went : (n : ℕ) (places : List Place) (v : ℕ) (p : Place) (g h k : List ℕ) (x y z : ℕ) → v < length places → Went n places v p g h k x y z
-    → (i : ℕ) → i < n → get_or k i 0 ≡ guests_at (set places v p) i
+    → (i : ℕ) → i < n → get_or k i 0 ≡ hosted_at (set places v p) i
 guests_went n places v p g h k x y z lt w i i_lt =
     let a = (get_or places v no_place).0.0 in
     let b = p.0.0 in
     let before = guest_left places v i lt in
     let before_a = guest_left places v a lt in
     let after = guest_left (set places v p) v i (omega (arith, lt, length-set places v p)) in
-    let same : ◌≡◌ {A = ℕ} (guests (others (set places v p) v) i) (guests (others places v) i) = ap (λ (l : List ℕ). guests l i) (others_set places v p) in
+    let same : ◌≡◌ {A = ℕ} (hosted (others (set places v p) v) i) (hosted (others places v) i) = ap (λ (l : List ℕ). hosted l i) (others_set places v p) in
     let here : ◌≡◌ {A = ℕ} (one_if (eqb (get_or (set places v p) v no_place).0.0 i)) (one_if (eqb b i)) = ap (λ (q : Place). one_if (eqb q.0.0 i)) (get_or-set_same places v p no_place lt) in
     let counted = w.counted i i_lt in
     let counted_a = w.counted a w.from in
     let one : ◌≡◌ {A = ℕ} (one_if (eqb a a)) 1 = ap one_if (eq-eqb a a refl) in
-    let left : get_or h i 0 ≡ guests (others places v) i = elim (cases_eq i a) [
+    let left : get_or h i 0 ≡ hosted (others places v) i = elim (cases_eq i a) [
       | inl is ↦ (
           let at : ◌≡◌ {A = ℕ} (get_or h i 0) (get_or g a 0 - 1) = ap (λ (l : List ℕ). get_or l i 0) w.left ∙ ap (λ (j : ℕ). get_or (set g a (get_or g a 0 - 1)) j 0) is ∙ get_or-set_same g a (get_or g a 0 - 1) 0 (let f = w.from in let c = w.one_each in omega (arith, f, c)) in
-          let its : ◌≡◌ {A = ℕ} (guests (others places v) i) (guests (others places v) a) = ap (guests (others places v)) is in
+          let its : ◌≡◌ {A = ℕ} (hosted (others places v) i) (hosted (others places v) a) = ap (hosted (others places v)) is in
           omega (arith, at, its, before_a, counted_a, one))
       | inr apart ↦ (
           let at : ◌≡◌ {A = ℕ} (get_or h i 0) (get_or g i 0) = ap (λ (l : List ℕ). get_or l i 0) w.left ∙ get_or-set_other g a i (get_or g a 0 - 1) 0 apart in
@@ -417,19 +417,19 @@ used_went n places v p g h k x y z lt w =
     let before_a = guest_left places v a lt in
     let one : ◌≡◌ {A = ℕ} (one_if (eqb a a)) 1 = ap one_if (eq-eqb a a refl) in
     let counted_a = w.counted a w.from in
-    let was : get_or g a 0 ≡ guests out a + 1 = omega (arith, before_a, one, counted_a) in
-    let flag : ◌≡◌ {A = ℕ} (one_if (eqb (get_or g a 0) 1)) (one_if (eqb (guests out a) 0)) = ap (λ (j : ℕ). one_if (eqb j 1)) was ∙ by_count (guests out a) in
+    let was : get_or g a 0 ≡ hosted out a + 1 = omega (arith, before_a, one, counted_a) in
+    let flag : ◌≡◌ {A = ℕ} (one_if (eqb (get_or g a 0) 1)) (one_if (eqb (hosted out a) 0)) = ap (λ (j : ℕ). one_if (eqb j 1)) was ∙ by_count (hosted out a) in
     let used = w.used in
     let left_used = w.left_used in
     let joined_used = w.joined_used in
     let whole = used_left places v lt in
     let whole_after = used_left (set places v p) v (omega (arith, lt, length-set places v p)) in
-    let same : ◌≡◌ {A = ℕ} (different same_node (others (set places v p) v) + one_if (eqb (guests (others (set places v p) v) (get_or (set places v p) v no_place).0.0) 0)) (different same_node out + one_if (eqb (guests out b) 0)) =
-    (λ j. different same_node (others_set places v p j) + one_if (eqb (guests (others_set places v p j) (get_or-set_same places v p no_place lt j).0.0) 0)) in
-    let left : get_or h b 0 ≡ guests out b = elim (cases_eq b a) [
+    let same : ◌≡◌ {A = ℕ} (different same_node (others (set places v p) v) + one_if (eqb (hosted (others (set places v p) v) (get_or (set places v p) v no_place).0.0) 0)) (different same_node out + one_if (eqb (hosted out b) 0)) =
+    (λ j. different same_node (others_set places v p j) + one_if (eqb (hosted (others_set places v p j) (get_or-set_same places v p no_place lt j).0.0) 0)) in
+    let left : get_or h b 0 ≡ hosted out b = elim (cases_eq b a) [
       | inl is ↦ (
           let at : ◌≡◌ {A = ℕ} (get_or h b 0) (get_or g a 0 - 1) = ap (λ (l : List ℕ). get_or l b 0) w.left ∙ ap (λ (j : ℕ). get_or (set g a (get_or g a 0 - 1)) j 0) is ∙ get_or-set_same g a (get_or g a 0 - 1) 0 (let f = w.from in let c = w.one_each in omega (arith, f, c)) in
-          let its : ◌≡◌ {A = ℕ} (guests out b) (guests out a) = ap (guests out) is in
+          let its : ◌≡◌ {A = ℕ} (hosted out b) (hosted out a) = ap (hosted out) is in
           omega (arith, at, its, was))
       | inr apart ↦ (
           let at : ◌≡◌ {A = ℕ} (get_or h b 0) (get_or g b 0) = ap (λ (l : List ℕ). get_or l b 0) w.left ∙ get_or-set_other g a b (get_or g a 0 - 1) 0 apart in
@@ -438,7 +438,7 @@ used_went n places v p g h k x y z lt w =
           let counted = w.counted b w.to in
           omega (arith, at, none, before, counted))
     ] in
-    let joined_flag : ◌≡◌ {A = ℕ} (one_if (eqb (get_or h b 0) 0)) (one_if (eqb (guests out b) 0)) = ap (λ (j : ℕ). one_if (eqb j 0)) left in
+    let joined_flag : ◌≡◌ {A = ℕ} (one_if (eqb (get_or h b 0) 0)) (one_if (eqb (hosted out b) 0)) = ap (λ (j : ℕ). one_if (eqb j 0)) left in
     omega (arith, flag, used, left_used, joined_used, whole, whole_after, same, joined_flag)
   where
     by_count : (c : ℕ) → one_if (eqb (c + 1) 1) ≡ one_if (eqb c 0)

@@ -21,6 +21,6 @@ mod SoftRows
 mod OwnEnds
 mod ListedLaws
 mod Served
-pub mod GuestLaws
+pub mod HostedNodeLaws
 mod SpareLaws
 mod SpeedLaws

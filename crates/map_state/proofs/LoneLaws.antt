@@ -20,9 +20,9 @@ use Rattle.map_state.specs.declared.state.MapState.{MapState}
 use Rattle.map_state.specs.declared.search.Search.{Search}
 use Rattle.map_state.specs.Nodes.{is_on, numbers_of, changes_of}
 use Rattle.map_state.specs.Tables.{IsSearch}
-use Rattle.map_state.specs.Hosted.{guests_at, placed_at}
+use Rattle.map_state.specs.Hosted.{hosted_at, placed_at}
 use Rattle.map_state.specs.States.{IsFeasibleState, IsPlanned}
-use Rattle.map_state.specs.Predicted.{IsLone}
+use Rattle.map_state.specs.Predicted.{CanPredict}
 use Rattle.map_state.proofs.Alikes.{alike_moved}
 use Rattle.map_state.proofs.StateLaws.{placed_ends, planned_plugs, none_on, own_on, shaped_at}
 use Rattle.map_state.proofs.OrderedPlans.{noted_in_order, none_noted}
@@ -59,7 +59,7 @@ lone_changes x v p =
     changes_of x.table.now.rows.items (numbers_of 0 (λ e. e.node == v) x.mapper.ends.now) (map (λ y. y.id) (ifaces_of 0 x.mapper.lab.now.ifaces p.0.0))
 
 -- these are what is planned for the ends on the two nodes, once it is there
-pub lone_planned : (x : Search) (places : List Place) (v : ℕ) (p : Place) → IsSearch x → length places ≡ length x.mapper.wiring.now.nodes → v < length places → IsLone x places v p
+pub lone_planned : (x : Search) (places : List Place) (v : ℕ) (p : Place) → IsSearch x → length places ≡ length x.mapper.wiring.now.nodes → v < length places → CanPredict x places v p
     → IsPlanned x (set places v p) p.0.0 (get_or places v no_place).0.0 (lone_changes x v p)
 lone_planned x places v p is count lt lone =
     let es = x.mapper.ends.now in
@@ -72,10 +72,10 @@ lone_planned x places v p is count lt lone =
     let empty = lone.empty in
     let size = length-set places v p in
     let placed = placed_ends x moved is (size ∙ count) in
-    let apart : b ≢ a = (λ e. (let same = ap (guests_at places) e in absurd (omega (arith, same, alone, empty)))) in
+    let apart : b ≢ a = (λ e. (let same = ap (hosted_at places) e in absurd (omega (arith, same, alone, empty)))) in
     let here : (get_or moved v no_place).0.0 ≡ a = ap (λ (q : Place). q.0.0) (get_or-set_same places v p no_place lt) in
-    let one : guests_at moved a ≡ 1 = (let more = guest_more places v p lt apart in omega (arith, more, empty)) in
-    let none : guests_at moved b ≡ 0 = (let less = guest_less places v p lt apart in omega (arith, less, alone)) in
+    let one : hosted_at moved a ≡ 1 = (let more = guest_more places v p lt apart in omega (arith, more, empty)) in
+    let none : hosted_at moved b ≡ 0 = (let less = guest_less places v p lt apart in omega (arith, less, alone)) in
     let own : numbers_of 0 (λ e. e.node == v) es ≡ numbers_of 0 (is_on moved a) es = own_on a v moved es placed (omega (arith, lt, size)) here one in
     let there = noted_in_order x moved a (numbers_of 0 (λ e. e.node == v) es) (ifaces_of 0 x.mapper.lab.now.ifaces a) [] changes is (size ∙ count) own refl lone.in_order refl in
     let left = none_noted x moved b changes (none_on b moved es placed none) in
@@ -89,7 +89,7 @@ lone_planned x places v p is count lt lone =
 
 -- THE PLUGS OF THE RULE once it is there
 pub lone_plugs : (x : Search) (b : MapState) (v : ℕ) (p : Place) → IsSearch x → IsFeasibleState x b → v < length b.mapping.places → p.0.0 < length x.mapper.lab.now.nodes
-    → has_name (node_at x.mapper.lab.now p.0).types p.1 ≡ true → IsLone x b.mapping.places v p
+    → has_name (node_at x.mapper.lab.now p.0).types p.1 ≡ true → CanPredict x b.mapping.places v p
     → plugs_of x.mapper.lab.now x.mapper.wiring.now (set b.mapping.places v p) ≡ Some (remade b.mapping.plugs (lone_changes x v p))
 lone_plugs x b v p is state lt node typed lone =
     let m = b.mapping in

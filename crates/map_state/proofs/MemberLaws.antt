@@ -28,7 +28,7 @@ use Rattle.cost_rule.specs.Cost.{types_of}
 use Rattle.cost_rule.specs.Counting.{types_from}
 use Rattle.map_state.specs.declared.members.Members.{Members}
 use Rattle.map_state.specs.Hosted.{kind_soft, asked_soft, placed_at}
-use Rattle.map_state.specs.Members.{AreMembers, members_at, type_place, class_place, asked_place, one_at}
+use Rattle.map_state.specs.Members.{AreMembers, members_at, type_index, class_index, asked_index, one_at}
 use Rattle.map_state.proofs.HostingLaws.{types_same, types_at, types_set}
 
 abbrev one_if : Bool → ℕ
@@ -53,10 +53,10 @@ record IsThere (w : Wiring) (c : ℕ) (kind : List ℕ) (n : ℕ) : Type 0 where
   pub within : place < length (class_at w c).types
   pub named : get_or (class_at w c).types place [] ≡ kind
 
-there : (w : Wiring) (c n : ℕ) (kind : List ℕ) → class_place w c kind ≡ Some n → IsThere w c kind n
-there w c n kind is = by (type_place w c kind) refl is
+there : (w : Wiring) (c n : ℕ) (kind : List ℕ) → class_index w c kind ≡ Some n → IsThere w c kind n
+there w c n kind is = by (type_index w c kind) refl is
   where
-    by : (o : Option ℕ) → type_place w c kind ≡ o → option_map (λ (k : ℕ). c * MAX_TYPES + k) o ≡ Some n → IsThere w c kind n
+    by : (o : Option ℕ) → type_index w c kind ≡ o → option_map (λ (k : ℕ). c * MAX_TYPES + k) o ≡ Some n → IsThere w c kind n
     by None first is = absurd (cc is)
     by (Some k) first is =
         let found = position-Some (λ (t : List ℕ). same_name t kind) (class_at w c).types k [] first in
@@ -68,7 +68,7 @@ there w c n kind is = by (type_place w c kind) refl is
         }
 
 -- one place is that of one class and one type
-same_class : (w : Wiring) (c d n : ℕ) (a b : List ℕ) → IsSound w → c < length w.classes → d < length w.classes → class_place w c a ≡ Some n → class_place w d b ≡ Some n → c ≡ d
+same_class : (w : Wiring) (c d n : ℕ) (a b : List ℕ) → IsSound w → c < length w.classes → d < length w.classes → class_index w c a ≡ Some n → class_index w d b ≡ Some n → c ≡ d
 same_class w c d n a b sound c_lt d_lt one other =
     let x = there w c n a one in
     let y = there w d n b other in
@@ -80,7 +80,7 @@ same_class w c d n a b sound c_lt d_lt one other =
     let y_within = y.within in
     omega (arith, few_c, few_d, x_at, y_at, x_within, y_within)
 
-same_type : (w : Wiring) (c n : ℕ) (a b : List ℕ) → class_place w c a ≡ Some n → class_place w c b ≡ Some n → a ≡ b
+same_type : (w : Wiring) (c n : ℕ) (a b : List ℕ) → class_index w c a ≡ Some n → class_index w c b ≡ Some n → a ≡ b
 same_type w c n a b one other =
     let x = there w c n a one in
     let y = there w c n b other in
@@ -94,18 +94,18 @@ pub record IsAskedAt (w : Wiring) (asks : Asks) (kind : List ℕ) (n : ℕ) : Ty
   pub class : ℕ
   pub asked : asks ≡ InClass class
   pub within : class < length w.classes
-  pub place : class_place w class kind ≡ Some n
+  pub place : class_index w class kind ≡ Some n
 
-pub asked_there : (w : Wiring) (asks : Asks) (kind : List ℕ) (n : ℕ) → asked_place w asks kind ≡ Some n → IsAskedAt w asks kind n
+pub asked_there : (w : Wiring) (asks : Asks) (kind : List ℕ) (n : ℕ) → asked_index w asks kind ≡ Some n → IsAskedAt w asks kind n
 asked_there w (Plain t) kind n is = absurd (cc is)
 asked_there w (InClass c) kind n is = by (nat_lt c (length w.classes)) refl is
   where
-    by : (b : Bool) → nat_lt c (length w.classes) ≡ b → cond b (class_place w c kind) None ≡ Some n → IsAskedAt w (InClass c) kind n
+    by : (b : Bool) → nat_lt c (length w.classes) ≡ b → cond b (class_index w c kind) None ≡ Some n → IsAskedAt w (InClass c) kind n
     by false out is = absurd (cc is)
     by true within is = record { class = c; asked = refl; within = ltb-true c (length w.classes) within; place = is }
 
 -- there is room for all classes
-pub class_within : (w : Wiring) (c n : ℕ) (kind : List ℕ) → IsSound w → c < length w.classes → class_place w c kind ≡ Some n → n < length w.classes * MAX_TYPES
+pub class_within : (w : Wiring) (c n : ℕ) (kind : List ℕ) → IsSound w → c < length w.classes → class_index w c kind ≡ Some n → n < length w.classes * MAX_TYPES
 class_within w c n kind sound lt is =
     let few = few_types w c sound lt in
     let x = there w c n kind is in
@@ -113,18 +113,18 @@ class_within w c n kind sound lt is =
     let within = x.within in
     omega (arith, few, lt, at, within)
 
-pub asked_within : (w : Wiring) (asks : Asks) (kind : List ℕ) (n : ℕ) → IsSound w → asked_place w asks kind ≡ Some n → n < length w.classes * MAX_TYPES
+pub asked_within : (w : Wiring) (asks : Asks) (kind : List ℕ) (n : ℕ) → IsSound w → asked_index w asks kind ≡ Some n → n < length w.classes * MAX_TYPES
 asked_within w asks kind n sound is =
     let x = asked_there w asks kind n is in
     class_within w x.class n kind sound x.within x.place
 
 -- a virtual node is counted where the members of its class that have its type are
-pub counted_at : (w : Wiring) (d n : ℕ) (kind : List ℕ) (asks : Asks) (type : List ℕ) → IsSound w → d < length w.classes → class_place w d kind ≡ Some n
-    → one_at (asked_place w asks type) n ≡ counts d kind asks type
+pub counted_at : (w : Wiring) (d n : ℕ) (kind : List ℕ) (asks : Asks) (type : List ℕ) → IsSound w → d < length w.classes → class_index w d kind ≡ Some n
+    → one_at (asked_index w asks type) n ≡ counts d kind asks type
 counted_at w d n kind (Plain t) type sound d_lt is = refl
-counted_at w d n kind (InClass c) type sound d_lt is = by (nat_lt c (length w.classes)) (class_place w c type) refl refl (eqb c d) (same_name kind type) refl refl
+counted_at w d n kind (InClass c) type sound d_lt is = by (nat_lt c (length w.classes)) (class_index w c type) refl refl (eqb c d) (same_name kind type) refl refl
   where
-    by : (l : Bool) (o : Option ℕ) → nat_lt c (length w.classes) ≡ l → class_place w c type ≡ o → (b t : Bool) → eqb c d ≡ b → same_name kind type ≡ t
+    by : (l : Bool) (o : Option ℕ) → nat_lt c (length w.classes) ≡ l → class_index w c type ≡ o → (b t : Bool) → eqb c d ≡ b → same_name kind type ≡ t
         → one_at (cond l o None) n ≡ one_if (b && t)
     by false o out place false t apart typed = refl
     by false o out place true t same typed =
@@ -133,16 +133,16 @@ counted_at w d n kind (InClass c) type sound d_lt is = by (nat_lt c (length w.cl
     by true None within place false t apart typed = refl
     by true None within place true false same typed = refl
     by true None within place true true same typed =
-        let here : class_place w c type ≡ Some n = (λ j. class_place w (eqb-true c d same j) (sym ((bytes_eq-Decides kind type).0 typed) j)) ∙ is in
+        let here : class_index w c type ≡ Some n = (λ j. class_index w (eqb-true c d same j) (sym ((bytes_eq-Decides kind type).0 typed) j)) ∙ is in
         absurd (cc (here, place))
     by true (Some k) within place false t apart typed =
         ap one_if (ne_eqb k n (λ e. absurd (cc (apart, eq-eqb c d (same_class w c d n type kind sound (ltb-true c (length w.classes) within) d_lt (place ∙ ap Some e) is)))))
     by true (Some k) within place true false same typed =
         ap one_if (ne_eqb k n (λ e.
-        let here : class_place w d type ≡ Some n = (λ j. class_place w (sym (eqb-true c d same) j) type) ∙ place ∙ ap Some e in
+        let here : class_index w d type ≡ Some n = (λ j. class_index w (sym (eqb-true c d same) j) type) ∙ place ∙ ap Some e in
         absurd (cc (typed, (bytes_eq-Decides kind type).1 (same_type w d n kind type is here)))))
     by true (Some k) within place true true same typed =
-        let here : class_place w c type ≡ Some n = (λ j. class_place w (eqb-true c d same j) (sym ((bytes_eq-Decides kind type).0 typed) j)) ∙ is in
+        let here : class_index w c type ≡ Some n = (λ j. class_index w (eqb-true c d same j) (sym ((bytes_eq-Decides kind type).0 typed) j)) ∙ is in
         ap one_if (eq-eqb k n (same_Some k n (sym place ∙ here)))
 
 pub counts_own : (c : ℕ) (kind : List ℕ) (asks : Asks) → asks ≡ InClass c → counts c kind asks kind ≡ 1
@@ -252,25 +252,25 @@ found test (x ∷ xs) any = by (test x) any (found test xs)
     by false any later = let rest = later any in omega (arith, rest)
 
 -- a type that a class lists has a place
-listed : (w : Wiring) (c : ℕ) (kind : List ℕ) → list_any (λ t. same_name t kind) (class_at w c).types ≡ true → class_place w c kind ≡ None → ⊥
+listed : (w : Wiring) (c : ℕ) (kind : List ℕ) → list_any (λ t. same_name t kind) (class_at w c).types ≡ true → class_index w c kind ≡ None → ⊥
 listed w c kind any none =
     let test : List ℕ → Bool = λ t. same_name t kind in
     let types = (class_at w c).types in
-    let here : class_place w c kind ≡ Some (c * MAX_TYPES + position_or_len test types) =
+    let here : class_index w c kind ≡ Some (c * MAX_TYPES + position_or_len test types) =
     ap (λ (b : Bool). option_map (λ (k : ℕ). c * MAX_TYPES + k) (cond b (Some (position_or_len test types)) None)) (lt-ltb (position_or_len test types) (length types) (found test types any)) in
     absurd (cc (here, none))
 
 -- a virtual node that is counted nowhere has no class
-pub uncounted : (w : Wiring) (m : Mapping) (asks : Asks) (kind : List ℕ) → is_asked w asks kind ≡ true → asked_place w asks kind ≡ None → asked_soft w m asks kind ≡ 0
+pub uncounted : (w : Wiring) (m : Mapping) (asks : Asks) (kind : List ℕ) → is_asked w asks kind ≡ true → asked_index w asks kind ≡ None → asked_soft w m asks kind ≡ 0
 uncounted w m (Plain t) kind asked none = refl
 uncounted w m (InClass c) kind asked none = by (nat_lt c (length w.classes)) none
   where
-    by : (b : Bool) → cond b (class_place w c kind) None ≡ None → cond b (kind_soft w m c kind) 0 ≡ 0
+    by : (b : Bool) → cond b (class_index w c kind) None ≡ None → cond b (kind_soft w m c kind) 0 ≡ 0
     by false none = refl
     by true none = absurd (listed w c kind asked none)
 
 -- the class of a place
-class_of : (w : Wiring) (c n : ℕ) (kind : List ℕ) → IsSound w → c < length w.classes → class_place w c kind ≡ Some n → n / MAX_TYPES ≡ c
+class_of : (w : Wiring) (c n : ℕ) (kind : List ℕ) → IsSound w → c < length w.classes → class_index w c kind ≡ Some n → n / MAX_TYPES ≡ c
 class_of w c n kind sound lt is =
     let few = few_types w c sound lt in
     let x = there w c n kind is in

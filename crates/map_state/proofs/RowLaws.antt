@@ -6,7 +6,7 @@ use Rattle.virt_topo.specs.declared.wiring.Segment.{Segment}
 use Rattle.virt_topo.specs.declared.wiring.Wiring.{Wiring}
 use Rattle.trunk_sums.specs.declared.sums.EndRow.{EndRow}
 use Rattle.trunk_sums.specs.Summed.{IsRow, first_end, no_segment}
-use Rattle.node_maps.specs.NodeMaps.{end_of, ends_from, ends_of}
+use Rattle.node_maps.specs.NodeMaps.{segment_end, ends_from, ends_of}
 use Rattle.map_state.specs.Nodes.{no_row}
 
 pub first_none : (segments : List Segment) → 0 ≡ first_end segments 0
@@ -28,16 +28,16 @@ same_count : (n m : ℕ) (segments : List Segment) → length (ends_from n segme
 same_count n m [] = refl
 same_count n m (x ∷ segments) =
     let rest = same_count (n + 1) (m + 1) segments in
-    let one = length-append (map (end_of n x) x.ends) (ends_from (n + 1) segments) in
-    let other = length-append (map (end_of m x) x.ends) (ends_from (m + 1) segments) in
-    omega (arith, rest, one, other, length-map x.ends (end_of n x), length-map x.ends (end_of m x))
+    let one = length-append (map (segment_end n x) x.ends) (ends_from (n + 1) segments) in
+    let other = length-append (map (segment_end m x) x.ends) (ends_from (m + 1) segments) in
+    omega (arith, rest, one, other, length-map x.ends (segment_end n x), length-map x.ends (segment_end m x))
 
 pub first_all : (segments : List Segment) → first_end segments (length segments) ≡ length (ends_of segments)
 first_all [] = refl
 first_all (x ∷ segments) =
     let rest = first_all segments in
-    let both = length-append (map (end_of 0 x) x.ends) (ends_from 1 segments) in
-    let own = length-map x.ends (end_of 0 x) in
+    let both = length-append (map (segment_end 0 x) x.ends) (ends_from 1 segments) in
+    let own = length-map x.ends (segment_end 0 x) in
     omega (arith, rest, both, own, same_count 0 1 segments)
 
 -- the first end of one segment more

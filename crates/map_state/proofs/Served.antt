@@ -186,7 +186,7 @@ placed_is places n e = home_of places n e ∙ by (slice_get places e.node) refl
 on_node : (places : List Place) (n : ℕ) (es : List End) → filter (is_on places n) (filter (is_placed places) es) ≡ filter (is_placed_on places n) es
 on_node places n es = both_filters (is_placed places) (is_on places n) (is_placed_on places n) es (placed_is places n)
 
--- the places with one more behind them
+-- the places with one more after them
 more_at : (places : List Place) (p : Place) (v : ℕ) → v < length places → get_or (places ++ p ∷ []) v no_place ≡ get_or places v no_place
 more_at [] p v lt = absurd (omega (arith, lt))
 more_at (q ∷ places) p zero lt = refl

@@ -9,14 +9,14 @@ use Rattle.phys_lab.specs.Labs.{Lab}
 use Rattle.virt_topo.specs.declared.wiring.VirtNode.{VirtNode}
 use Rattle.virt_topo.specs.declared.mapping.Mapping.{Mapping}
 use Rattle.lab_model.specs.Shapes.{Place, IsShaped, node_at}
-use Rattle.lab_model.specs.Rules.{agree, guests, no_place}
+use Rattle.lab_model.specs.Rules.{agree, hosted, no_place}
 use Rattle.trunk_sums.specs.declared.made.Change.{Change}
 use Rattle.trunk_sums.specs.Remade.{remade}
 use Rattle.node_maps.specs.declared.ends.End.{End}
 use Rattle.node_maps.specs.NodeMaps.{plugs_from, plugs_of}
 use Rattle.node_maps.specs.Moved.{may_share}
 use Rattle.node_maps.proofs.EndLists.{same_length}
-use Rattle.node_maps.proofs.MovedLaws.{guests_alike}
+use Rattle.node_maps.proofs.MovedLaws.{hosted_alike}
 use Rattle.map_state.specs.declared.search.Search.{Search}
 use Rattle.map_state.specs.Nodes.{is_on, numbers_of, plugs_where, with_plugs, changes_of}
 use Rattle.map_state.specs.Tables.{IsSearch}
@@ -40,11 +40,11 @@ where_off p (e ∷ es) (i ∷ plugs) off =
     ap (λ (b : Bool). cond b (i ∷ plugs_where p es plugs) (plugs_where p es plugs)) (off 0 e (omega arith)) ∙ where_off p es plugs (λ k d lt. off (suc k) d (omega (arith, lt)))
 
 -- no virtual node is on the node
-guests_off : (vs : List VirtNode) (places : List Place) (n : ℕ) → All (λ (p : Place). p.0.0 ≢ n) places → guests vs places n ≡ []
+guests_off : (vs : List VirtNode) (places : List Place) (n : ℕ) → All (λ (p : Place). p.0.0 ≢ n) places → hosted vs places n ≡ []
 guests_off [] places n off = refl
 guests_off (v ∷ vs) [] n off = refl
 guests_off (v ∷ vs) (p ∷ places) n off =
-    ap (λ (b : Bool). cond b ((p.1, v.os) ∷ guests vs places n) (guests vs places n)) (ne_eqb p.0.0 n (off 0 p (omega arith)))
+    ap (λ (b : Bool). cond b ((p.1, v.os) ∷ hosted vs places n) (hosted vs places n)) (ne_eqb p.0.0 n (off 0 p (omega arith)))
     ∙ guests_off vs places n (λ k d lt. off (suc k) d (omega (arith, lt)))
 
 given_off : (lab : Lab) (places : List Place) (es : List End) (plugs : List IfaceId) (n : ℕ) → All (λ (e : End). e.node < length places) es → All (λ (p : Place). p.0.0 ≢ n) places
@@ -107,7 +107,7 @@ served_put x m v p n is count lt not_new not_old served =
     let old = (get_or m.places v no_place).0.0 in
     let alike = alike_moved m.places v p lt in
     record {
-      shares = ap (agree (node_at lab (record { 0 = n })).types) (guests_alike w.nodes moved m.places p.0.0 old n alike not_new not_old) ∙ served.shares;
+      shares = ap (agree (node_at lab (record { 0 = n })).types) (hosted_alike w.nodes moved m.places p.0.0 old n alike not_new not_old) ∙ served.shares;
       given = given_alike lab x.mapper.ends.now moved m.places m.plugs p.0.0 old n alike (placed_ends x moved is (length-set m.places v p ∙ count)) not_new not_old served.given;
     }
 

@@ -26,7 +26,7 @@ use Rattle.virt_topo.specs.declared.mapping.Mapping.{Mapping}
 use Rattle.virt_topo.proofs.CableLaws.{sound_limits}
 use Rattle.lab_model.specs.Shapes.{Place, IsShaped, node_at, no_node, has_name}
 use Rattle.lab_model.specs.Uses.{switch_of, no_iface}
-use Rattle.lab_model.specs.Rules.{agree, guests, Guest, number_of, no_place, no_cable, cable_at, keeps_f6, keeps_f7, keeps_f8}
+use Rattle.lab_model.specs.Rules.{agree, hosted, HostedNode, number_of, no_place, no_cable, cable_at, keeps_f6, keeps_f7, keeps_f8}
 use Rattle.lab_model.specs.Feasible.{AllPass}
 use Rattle.lab_model.proofs.CutLaws.{cut_is_use}
 use Rattle.trunk_sums.specs.declared.made.Change.{Change}
@@ -45,7 +45,7 @@ use Rattle.node_maps.proofs.Shaped.{plugs_within}
 use Rattle.map_state.specs.declared.search.Search.{Search}
 use Rattle.map_state.specs.Nodes.{is_on, numbers_of, with_plugs, changes_of, no_row, no_end}
 use Rattle.map_state.specs.Tables.{AreAllJoined, IsSearch}
-use Rattle.map_state.specs.Hosted.{guests_at, placed_at}
+use Rattle.map_state.specs.Hosted.{hosted_at, placed_at}
 use Rattle.map_state.specs.States.{IsPlanned, Was}
 use Rattle.map_state.proofs.HostingLaws.{guest_left}
 use Rattle.map_state.proofs.WhereLaws.{numbers_alike, numbered_ends, with_length, remade_both, remade_where}
@@ -81,31 +81,31 @@ counted_type (p ∷ types) name are has =
         let rest = later (sym (ap (λ (b : Bool). b || has_name types name) is) ∙ has) in
         omega (arith, at, rest)
 
-one_agrees : (types : List (List ℕ × ℕ)) (gs : List Guest) → length gs ≤ 1 → All (λ (g : Guest). 1 ≤ number_of types g.0) gs → agree types gs ≡ true
+one_agrees : (types : List (List ℕ × ℕ)) (gs : List HostedNode) → length gs ≤ 1 → All (λ (g : HostedNode). 1 ≤ number_of types g.0) gs → agree types gs ≡ true
 one_agrees types [] few each = refl
 one_agrees types (g ∷ []) few each = let one = each 0 g (omega arith) in grind (arith, nat_tests)
 one_agrees types (g ∷ h ∷ gs) few each = absurd (omega (arith, few))
 
-guests_each : (On : Guest → Type 0) (vs : List VirtNode) (places : List Place) (n : ℕ) → ((k : ℕ) (d : Place) (os : List ℕ) → k < length places → (get_or places k d).0.0 ≡ n → On ((get_or places k d).1, os)) → All On (guests vs places n)
+guests_each : (On : HostedNode → Type 0) (vs : List VirtNode) (places : List Place) (n : ℕ) → ((k : ℕ) (d : Place) (os : List ℕ) → k < length places → (get_or places k d).0.0 ≡ n → On ((get_or places k d).1, os)) → All On (hosted vs places n)
 guests_each On [] places n each = λ k d lt. absurd (omega (arith, lt))
 guests_each On (v ∷ vs) [] n each = λ k d lt. absurd (omega (arith, lt))
 guests_each On (v ∷ vs) (p ∷ places) n each =
     by (eqb p.0.0 n) refl (guests_each On vs places n (λ k d os lt is. each (suc k) d os (omega (arith, lt)) is))
   where
-    by : (b : Bool) → eqb p.0.0 n ≡ b → All On (guests vs places n) → All On (cond b ((p.1, v.os) ∷ guests vs places n) (guests vs places n))
+    by : (b : Bool) → eqb p.0.0 n ≡ b → All On (hosted vs places n) → All On (cond b ((p.1, v.os) ∷ hosted vs places n) (hosted vs places n))
     by true is rest zero d lt = each 0 p v.os (omega arith) (eqb-true p.0.0 n is)
     by true is rest (suc k) d lt = rest k d (omega (arith, lt))
     by false is rest k d lt = rest k d lt
 
-guests_few : (vs : List VirtNode) (places : List Place) (n : ℕ) → length (guests vs places n) ≤ guests_at places n
-guests_few [] places n = omega arith
-guests_few (v ∷ vs) [] n = omega arith
-guests_few (v ∷ vs) (p ∷ places) n =
+few_hosted : (vs : List VirtNode) (places : List Place) (n : ℕ) → length (hosted vs places n) ≤ hosted_at places n
+few_hosted [] places n = omega arith
+few_hosted (v ∷ vs) [] n = omega arith
+few_hosted (v ∷ vs) (p ∷ places) n =
     let step = sum_by-cons (λ (q : Place). cond (eqb q.0.0 n) 1 0) p places in
-    by (eqb p.0.0 n) refl step (guests_few vs places n)
+    by (eqb p.0.0 n) refl step (few_hosted vs places n)
   where
-    by : (b : Bool) → eqb p.0.0 n ≡ b → guests_at (p ∷ places) n ≡ cond (eqb p.0.0 n) 1 0 + guests_at places n → length (guests vs places n) ≤ guests_at places n
-        → length (cond b ((p.1, v.os) ∷ guests vs places n) (guests vs places n)) ≤ guests_at (p ∷ places) n
+    by : (b : Bool) → eqb p.0.0 n ≡ b → hosted_at (p ∷ places) n ≡ cond (eqb p.0.0 n) 1 0 + hosted_at places n → length (hosted vs places n) ≤ hosted_at places n
+        → length (cond b ((p.1, v.os) ∷ hosted vs places n) (hosted vs places n)) ≤ hosted_at (p ∷ places) n
     by true is step rest = let one : ◌≡◌ {A = ℕ} (cond (eqb p.0.0 n) 1 0) 1 = ap (λ (b : Bool). cond b 1 0) is in omega (arith, step, rest, one)
     by false is step rest = omega (arith, step, rest)
 
@@ -118,11 +118,11 @@ counted_at lab n name is lt has =
     let ranges = (and_parts _ _ (and_parts _ _ (and_parts _ _ whole.ranges).1).1).0 in
     counted_type types name ranges has
 
-pub alone_shares : (lab : Lab) (w : Wiring) (m : Mapping) (n : ℕ) → IsLab lab → IsShaped lab w m → n < length lab.nodes → guests_at m.places n ≤ 1 → may_share lab w m.places n ≡ true
+pub alone_shares : (lab : Lab) (w : Wiring) (m : Mapping) (n : ℕ) → IsLab lab → IsShaped lab w m → n < length lab.nodes → hosted_at m.places n ≤ 1 → may_share lab w m.places n ≡ true
 alone_shares lab w m n is shaped lt few =
     let types = (node_at lab (record { 0 = n })).types in
-    one_agrees types (guests w.nodes m.places n) (let count = guests_few w.nodes m.places n in omega (arith, count, few))
-    (guests_each (λ (g : Guest). 1 ≤ number_of types g.0) w.nodes m.places n (λ k d os k_lt on.
+    one_agrees types (hosted w.nodes m.places n) (let count = few_hosted w.nodes m.places n in omega (arith, count, few))
+    (guests_each (λ (g : HostedNode). 1 ≤ number_of types g.0) w.nodes m.places n (λ k d os k_lt on.
     counted_at lab n (get_or m.places k d).1 is lt
     (ap (λ (j : ℕ). has_name (node_at lab (record { 0 = j })).types (get_or m.places k d).1) (sym on) ∙ shaped.of_node k d k_lt)))
 
@@ -334,7 +334,7 @@ planned_plugs x m a b changes last is shaped plan was =
     ∙ ap Some (sym made)
 
 -- the ends on a node that has no virtual node, or one
-none_numbered : (n k : ℕ) (places : List Place) (es : List End) → All (λ (e : End). e.node < length places) es → guests_at places n ≡ 0 → [] ≡ numbers_of k (is_on places n) es
+none_numbered : (n k : ℕ) (places : List Place) (es : List End) → All (λ (e : End). e.node < length places) es → hosted_at places n ≡ 0 → [] ≡ numbers_of k (is_on places n) es
 none_numbered n k places [] placed none = refl
 none_numbered n k places (e ∷ es) placed none =
     let left = guest_left places e.node n (placed 0 e (omega arith)) in
@@ -344,7 +344,7 @@ none_numbered n k places (e ∷ es) placed none =
     none_numbered n (k + 1) places es (λ j d lt. placed (suc j) d (omega (arith, lt))) none
     ∙ ap (λ (b : Bool). cond b (k ∷ numbers_of (k + 1) (is_on places n) es) (numbers_of (k + 1) (is_on places n) es)) (sym off)
 
-pub none_on : (n : ℕ) (places : List Place) (es : List End) → All (λ (e : End). e.node < length places) es → guests_at places n ≡ 0 → [] ≡ numbers_of 0 (is_on places n) es
+pub none_on : (n : ℕ) (places : List Place) (es : List End) → All (λ (e : End). e.node < length places) es → hosted_at places n ≡ 0 → [] ≡ numbers_of 0 (is_on places n) es
 none_on n places es placed none = none_numbered n 0 places es placed none
 
 counts_one : (xs : List ℕ) (u n : ℕ) → u < length xs → get_or xs u 0 ≡ n → 1 ≤ count_by (λ (x : ℕ). x == n) xs
@@ -374,7 +374,7 @@ other_stays (x ∷ xs) (suc v) (suc u) n v_lt u_lt ne at =
     let rest = other_stays xs v u n (omega (arith, v_lt)) (omega (arith, u_lt)) (λ e. ne (ap (λ (k : ℕ). suc k) e)) at in
     omega (arith, step, rest)
 
-pub own_on : (n v : ℕ) (places : List Place) (es : List End) → All (λ (e : End). e.node < length places) es → v < length places → (get_or places v no_place).0.0 ≡ n → guests_at places n ≡ 1
+pub own_on : (n v : ℕ) (places : List Place) (es : List End) → All (λ (e : End). e.node < length places) es → v < length places → (get_or places v no_place).0.0 ≡ n → hosted_at places n ≡ 1
     → numbers_of 0 (λ e. e.node == v) es ≡ numbers_of 0 (is_on places n) es
 own_on n v places es placed lt here one =
     let left = guest_left places v n lt in

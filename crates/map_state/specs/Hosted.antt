@@ -15,24 +15,24 @@ use Rattle.map_state.specs.Members.{AreMembers}
 use Rattle.map_state.specs.declared.hosting.Hosting.{Hosting}
 
 -- how many virtual nodes are on node n
-abbrev pub guests_at : List Place → ℕ → ℕ
-guests_at places n = count_by (λ p. p.0.0 == n) places
+abbrev pub hosted_at : List Place → ℕ → ℕ
+hosted_at places n = count_by (λ p. p.0.0 == n) places
 
 -- more virtual nodes are on the node of virtual node v than may have its type there
 abbrev pub IsOverfull : Lab → List Place → ℕ → Type 0
 IsOverfull lab places v =
     number_of (node_at lab (slice_index_or places v no_place).0).types (slice_index_or places v no_place).1
-    < guests_at places (slice_index_or places v no_place).0.0
+    < hosted_at places (slice_index_or places v no_place).0.0
 
 -- virtual node v is on another node than that of room r, where as many are as there is room for
 abbrev pub IsFull : List Place → ℕ → Room → Type 0
-IsFull places v r = ((slice_index_or places v no_place).0.0 ≡ r.node.0 → ⊥) × (r.most ≤ guests_at places r.node.0)
+IsFull places v r = ((slice_index_or places v no_place).0.0 ≡ r.node.0 → ⊥) × (r.most ≤ hosted_at places r.node.0)
 
 -- by virtual node its node; by node how many virtual nodes are on it; how many nodes are in use; by class and type how many members have it; what is soft
 pub record IsHosting (lab : Lab) (w : Wiring) (m : Mapping) (x : Hosting) : Type 0 where
   pub hosts : x.hosts.items ≡ map (λ p. p.0.0) m.places
-  pub one_each : length x.guests.items ≡ length lab.nodes
-  pub guests : (n : ℕ) → n < length lab.nodes → slice_index_or x.guests.items n 0 ≡ guests_at m.places n
+  pub one_each : length x.hosted.items ≡ length lab.nodes
+  pub hosted : (n : ℕ) → n < length lab.nodes → slice_index_or x.hosted.items n 0 ≡ hosted_at m.places n
   pub nodes : x.nodes ≡ nodes_in_use m
   pub members : AreMembers w m x.members
   pub soft : x.soft ≡ soft lab w m

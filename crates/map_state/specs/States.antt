@@ -27,7 +27,7 @@ pub record IsGiving (lab : Lab) (x : Given) : Type 0 where
   pub had : List Laid
   pub marks : Marks lab x had
 
--- the ends on node n get these plugs, which are noted as changes behind the earlier ones
+-- the ends on node n get these plugs, which are noted as changes after the earlier ones
 pub record IsNoted (lab : Lab) (rows : List EndRow) (es : List End) (places : List Place) (n : ℕ) (earlier later : List Change) : Type 0 where
   pub plugs : List IfaceId
   pub given : plugs_from lab places (filter (is_on places n) es) ≡ Some plugs

@@ -17,15 +17,15 @@ fn types_at(lab: &Lab, node: NodeId) -> &[(Name, u16)]
 }
 
 /// Whether a node with so many virtual nodes on it has as many as may have a type of it there. That is one at least.
-pub(crate) fn is_taken(lab: &Lab, place: Place, guests: u16) -> bool
+pub(crate) fn is_taken(lab: &Lab, place: Place, hosted: u16) -> bool
     requires node { place.0.0 < length lab.now.nodes }
     requires typed { has_name (node_at lab.now place.0).types place.1 ≡ true }
-    ensures { result ≡ nat_le (number_of (node_at lab.now place.0).types place.1) guests }
+    ensures { result ≡ nat_le (number_of (node_at lab.now place.0).types place.1) hosted }
 {
     // for the prover: it tells what every lab keeps
     let _kept = lab.range();
-    if guests == 0 {
+    if hosted == 0 {
         return false;
     }
-    guests >= number_of(types_at(lab, place.0), place.1)
+    hosted >= number_of(types_at(lab, place.0), place.1)
 }

@@ -215,10 +215,10 @@ fn give_listed(
 /// Whether a virtual node is the only one on a node.
 fn is_alone(places: &[Place], hosting: &Hosting, node: NodeId, virt: usize) -> bool
     requires virt { virt < length places.now }
-    requires node { node.0 < length hosting.now.guests.items }
-    ensures { result ≡ ((slice_index_or hosting.now.guests.items node.0 0 == 1) && ((slice_index_or places.now virt no_place).0.0 == node.0)) }
+    requires node { node.0 < length hosting.now.hosted.items }
+    ensures { result ≡ ((slice_index_or hosting.now.hosted.items node.0 0 == 1) && ((slice_index_or places.now virt no_place).0.0 == node.0)) }
 {
-    hosting.guests[node.0 as usize] == 1 && places[virt].0.0 == node.0
+    hosting.hosted[node.0 as usize] == 1 && places[virt].0.0 == node.0
 }
 
 /// Gives the ends on a node their interfaces, and notes them; false where some end gets none. The virtual node may be the
@@ -247,7 +247,7 @@ pub(crate) fn give(
         → plugs_from search.now.mapper.lab.now mapping.now.places (filter (is_on mapping.now.places node.0) search.now.mapper.ends.now) ≡ None) }
 {
     let places = mapping.places.as_slice();
-    if hosting.guests[node.0 as usize] == 0 {
+    if hosting.hosted[node.0 as usize] == 0 {
         return Ok(true);
     }
     if is_alone(places, hosting, node, virt) {

@@ -6,10 +6,10 @@ ghost use Rattle.cost_rule.specs.Cost.{nodes_in_use, soft as soft_in};
 ghost use Rattle.lab_model.specs.Shapes.{IsShaped, node_at, has_name};
 ghost use Rattle.lab_model.specs.Rules.{is_asked, no_place, place_at};
 ghost use Rattle.map_state.specs.Softs.{AreSofts};
-ghost use Rattle.map_state.specs.Members.{AreMembers, asked_place, is_plain};
-ghost use Rattle.map_state.specs.Hosted.{IsHosting, guests_at, placed_at};
+ghost use Rattle.map_state.specs.Members.{AreMembers, asked_index, is_plain};
+ghost use Rattle.map_state.specs.Hosted.{IsHosting, hosted_at, placed_at};
 
-use crate::members::{Members, virt_place};
+use crate::members::{Members, virt_index};
 use crate::softs::Softs;
 use cost_rule::{MAX_SOFT, parts_of};
 use lab_base::{Items, Memory, Name, NodeId};
@@ -32,7 +32,7 @@ pub struct Outcome {
 pub struct Hosting {
     /// By virtual node its node.
     pub(crate) hosts: Vec<u16>,
-    pub(crate) guests: Vec<u16>,
+    pub(crate) hosted: Vec<u16>,
     pub(crate) nodes: u64,
     pub(crate) members: Members,
     pub(crate) soft: u64,
@@ -98,17 +98,17 @@ fn hosts_of(alloc: Global, mapping: &Mapping) -> Result<Vec<u16>, Memory>
     Ok(hosts)
 }
 
-fn count_guests(alloc: Global, lab: &Lab, mapping: &Mapping) -> Result<Vec<u16>, Memory>
+fn count_hosted(alloc: Global, lab: &Lab, mapping: &Mapping) -> Result<Vec<u16>, Memory>
     requires few { length mapping.now.places ≤ MAX_TOPOLOGY_NODES }
     requires within { All (λ p. p.0.0 < length lab.now.nodes) mapping.now.places }
-    ensures one_each { IfOk result (λ guests. length guests.items ≡ length lab.now.nodes) }
-    ensures guests { IfOk result (λ guests. (n : ℕ) → n < length lab.now.nodes → slice_index_or guests.items n 0 ≡ guests_at mapping.now.places n) }
+    ensures one_each { IfOk result (λ hosted. length hosted.items ≡ length lab.now.nodes) }
+    ensures hosted { IfOk result (λ hosted. (n : ℕ) → n < length lab.now.nodes → slice_index_or hosted.items n 0 ≡ hosted_at mapping.now.places n) }
 {
-    let mut guests = vec![in alloc; 0u16; lab.nodes().len()]?;
+    let mut hosted = vec![in alloc; 0u16; lab.nodes().len()]?;
     for place in mapping.places.as_slice() {
-        guests[place.0.0 as usize] += 1;
+        hosted[place.0.0 as usize] += 1;
     }
-    Ok(guests)
+    Ok(hosted)
 }
 
 impl Hosting {
@@ -124,12 +124,12 @@ impl Hosting {
         ensures { IfOk result (λ hosting. IsHosting lab.now wiring.now mapping.now hosting) }
     {
         let hosts = hosts_of(alloc, mapping)?;
-        let guests = count_guests(alloc, lab, mapping)?;
+        let hosted = count_hosted(alloc, lab, mapping)?;
         let members = Members::of(alloc, wiring, mapping)?;
         let parts = parts_of(lab, wiring, mapping);
         Ok(Hosting {
             hosts,
-            guests,
+            hosted,
             nodes: parts.nodes,
             members,
             soft: parts.soft,
@@ -137,38 +137,38 @@ impl Hosting {
     }
 
     fn leave(&mut self, node: NodeId)
-        requires within { node.0 < length self.old.guests.items }
-        requires guest { 0 < slice_index_or self.old.guests.items node.0 0 }
-        requires used { slice_index_or self.old.guests.items node.0 0 ≡ 1 → 0 < self.old.nodes }
-        ensures guests { self.new.guests.items ≡ slice_set self.old.guests.items node.0 (slice_index_or self.old.guests.items node.0 0 - 1) }
-        ensures nodes { self.new.nodes + (if slice_index_or self.old.guests.items node.0 0 == 1 then 1 else 0) ≡ self.old.nodes }
+        requires within { node.0 < length self.old.hosted.items }
+        requires guest { 0 < slice_index_or self.old.hosted.items node.0 0 }
+        requires used { slice_index_or self.old.hosted.items node.0 0 ≡ 1 → 0 < self.old.nodes }
+        ensures hosted { self.new.hosted.items ≡ slice_set self.old.hosted.items node.0 (slice_index_or self.old.hosted.items node.0 0 - 1) }
+        ensures nodes { self.new.nodes + (if slice_index_or self.old.hosted.items node.0 0 == 1 then 1 else 0) ≡ self.old.nodes }
         ensures hosts { self.new.hosts ≡ self.old.hosts }
         ensures members { self.new.members ≡ self.old.members }
         ensures soft { self.new.soft ≡ self.old.soft }
     {
-        self.guests[node.0 as usize] -= 1;
-        if self.guests[node.0 as usize] == 0 {
+        self.hosted[node.0 as usize] -= 1;
+        if self.hosted[node.0 as usize] == 0 {
             self.nodes -= 1;
         }
     }
 
     fn join(&mut self, node: NodeId)
-        requires within { node.0 < length self.old.guests.items }
-        requires few { slice_index_or self.old.guests.items node.0 0 ≤ MAX_TOPOLOGY_NODES }
+        requires within { node.0 < length self.old.hosted.items }
+        requires few { slice_index_or self.old.hosted.items node.0 0 ≤ MAX_TOPOLOGY_NODES }
         requires few_nodes { self.old.nodes ≤ MAX_TOPOLOGY_NODES }
-        ensures guests { self.new.guests.items ≡ slice_set self.old.guests.items node.0 (slice_index_or self.old.guests.items node.0 0 + 1) }
-        ensures nodes { self.new.nodes ≡ self.old.nodes + (if slice_index_or self.old.guests.items node.0 0 == 0 then 1 else 0) }
+        ensures hosted { self.new.hosted.items ≡ slice_set self.old.hosted.items node.0 (slice_index_or self.old.hosted.items node.0 0 + 1) }
+        ensures nodes { self.new.nodes ≡ self.old.nodes + (if slice_index_or self.old.hosted.items node.0 0 == 0 then 1 else 0) }
         ensures hosts { self.new.hosts ≡ self.old.hosts }
         ensures members { self.new.members ≡ self.old.members }
         ensures soft { self.new.soft ≡ self.old.soft }
     {
-        if self.guests[node.0 as usize] == 0 {
+        if self.hosted[node.0 as usize] == 0 {
             self.nodes += 1;
         }
-        self.guests[node.0 as usize] += 1;
+        self.hosted[node.0 as usize] += 1;
     }
 
-    /// A virtual node leaves its node for another place; `into` is where it is counted then. What is soft isn't told anew.
+    /// Moves a virtual node to another place in all counts. `into` is the index of its class and type among the members. The soft cost is left as it was.
     fn go(
         &mut self,
         alloc: Global,
@@ -184,11 +184,11 @@ impl Hosting {
         requires hosting { IsHosting lab.now wiring.now mapping.old self.old }
         requires virt { virt < length wiring.now.nodes }
         requires node { place.0.0 < length lab.now.nodes }
-        requires into { into ≡ asked_place wiring.now (virt_at wiring.now virt).asks place.1 }
+        requires into { into ≡ asked_index wiring.now (virt_at wiring.now virt).asks place.1 }
         ensures mapping { mapping.new ≡ placed_at mapping.old virt place }
         ensures hosts { self.new.hosts.items ≡ map (λ p. p.0.0) (placed_at mapping.old virt place).places }
-        ensures one_each { length self.new.guests.items ≡ length lab.now.nodes }
-        ensures guests { (n : ℕ) → n < length lab.now.nodes → slice_index_or self.new.guests.items n 0 ≡ guests_at (placed_at mapping.old virt place).places n }
+        ensures one_each { length self.new.hosted.items ≡ length lab.now.nodes }
+        ensures hosted { (n : ℕ) → n < length lab.now.nodes → slice_index_or self.new.hosted.items n 0 ≡ hosted_at (placed_at mapping.old virt place).places n }
         ensures nodes { self.new.nodes ≡ nodes_in_use (placed_at mapping.old virt place) }
         ensures members { AreMembers wiring.now (placed_at mapping.old virt place) self.new.members }
         ensures soft { self.new.soft ≡ self.old.soft }
@@ -221,7 +221,7 @@ impl Hosting {
         requires node { place.now.0.0 < length lab.now.nodes }
         requires asked { is_asked wiring.now (virt_at wiring.now virt).asks (place_at mapping.now virt).1 ≡ true }
         ensures soft { result.0 ≡ soft_in lab.now wiring.now (placed_at mapping.now virt place.now) }
-        ensures counted { result.1 ≡ asked_place wiring.now (virt_at wiring.now virt).asks place.now.1 }
+        ensures counted { result.1 ≡ asked_index wiring.now (virt_at wiring.now virt).asks place.now.1 }
     {
         // for the prover: it tells what every lab keeps
         let _kept = lab.range();
@@ -236,7 +236,7 @@ impl Hosting {
             let soft = changed(self.soft, (after, 0), (before, 0));
             return (soft, self.members.counted(virt));
         }
-        let into = virt_place(wiring, virt, &place.1);
+        let into = virt_index(wiring, virt, &place.1);
         let gained = self
             .members
             .type_soft(wiring, mapping, virt, &place.1, into);
@@ -265,8 +265,8 @@ impl Hosting {
         if from.0 == place.0.0 {
             return self.nodes;
         }
-        let joined = one_if(self.guests[place.0.0 as usize] == 0);
-        let left = one_if(self.guests[from.0 as usize] == 1);
+        let joined = one_if(self.hosted[place.0.0 as usize] == 0);
+        let left = one_if(self.hosted[from.0 as usize] == 1);
         self.nodes + joined - left
     }
 
@@ -299,7 +299,7 @@ impl Hosting {
         let before = softs.at(lab, wiring, virt, from);
         let after = softs.at(lab, wiring, virt, place.0);
         let out_of = self.members.counted(virt);
-        let into = virt_place(wiring, virt, &place.1);
+        let into = virt_index(wiring, virt, &place.1);
         let gained = self
             .members
             .type_soft(wiring, mapping, virt, &place.1, into);
@@ -308,8 +308,8 @@ impl Hosting {
         self.soft = changed(self.soft, (after, gained), (before, lost));
     }
 
-    /// A virtual node goes to a place. What comes of that is known.
-    pub fn place_known(
+    /// A virtual node goes to a place. The outcome was predicted.
+    pub fn place_predicted(
         &mut self,
         alloc: Global,
         lab: &Lab,
@@ -326,7 +326,7 @@ impl Hosting {
         requires node { place.0.0 < length lab.now.nodes }
         requires typed { has_name (node_at lab.now place.0).types place.1 ≡ true }
         requires soft { outcome.soft ≡ soft_in lab.now wiring.now (placed_at mapping.old virt place) }
-        requires counted { outcome.counted ≡ asked_place wiring.now (virt_at wiring.now virt).asks place.1 }
+        requires counted { outcome.counted ≡ asked_index wiring.now (virt_at wiring.now virt).asks place.1 }
         ensures mapping { mapping.new ≡ placed_at mapping.old virt place }
         ensures shaped { IsShaped lab.now wiring.now mapping.new }
         ensures hosting { IsHosting lab.now wiring.now mapping.new self.new }

@@ -59,7 +59,7 @@ fn keeps_f7(search: &Search, mapping: &Mapping, segment: usize) -> bool
     let first = search.table.firsts[segment] as usize;
     let ends = mapper.wiring.segments.as_slice()[segment].ends.len();
     let (_before, rest) = mapping.plugs.as_slice().split_at(first);
-    let (own, _behind) = rest.split_at(ends);
+    let (own, _after) = rest.split_at(ends);
     are_joined(mapper.lab, own)
 }
 

@@ -7,7 +7,7 @@ ghost use Rattle.virt_topo.specs.Wirings.{virt_at};
 ghost use Rattle.lab_model.specs.Shapes.{Place as PlaceSeen};
 ghost use Rattle.lab_model.specs.Rules.{class_at, is_asked, no_place, place_at};
 ghost use Rattle.cost_rule.specs.Cost.{types_of};
-ghost use Rattle.map_state.specs.Members.{AreMembers, type_place, class_place, asked_place, one_at};
+ghost use Rattle.map_state.specs.Members.{AreMembers, type_index, class_index, asked_index, one_at};
 ghost use Rattle.map_state.specs.Hosted.{kind_soft as kind_soft_in, asked_soft as asked_soft_in, placed_at};
 
 use cost_rule::has_kind;
@@ -25,7 +25,7 @@ pub(crate) struct Members {
     pub(crate) own: Vec<Option<usize>>,
 }
 
-/// The place of a type among others.
+/// The index of a type among others.
 fn place_among(types: &[Name], kind: &Name) -> Option<usize>
     ensures is { result ≡ position (λ t. same_name t kind.now) types.now }
     ensures within { IfSome result (λ k. k < length types.now) }
@@ -33,37 +33,37 @@ fn place_among(types: &[Name], kind: &Name) -> Option<usize>
     types.iter().position(|listed| *listed == *kind)
 }
 
-/// The place of a type among those that a class lists.
-fn type_place(wiring: &Wiring, class: usize, kind: &Name) -> Option<usize>
+/// The index of a type among those that a class lists.
+fn type_index(wiring: &Wiring, class: usize, kind: &Name) -> Option<usize>
     requires { class < length wiring.now.classes }
-    ensures is { result ≡ type_place wiring.now class kind.now }
+    ensures is { result ≡ type_index wiring.now class kind.now }
     ensures within { IfSome result (λ k. k < length (class_at wiring.now class).types) }
 {
     place_among(wiring.classes.as_slice()[class].types.as_slice(), kind)
 }
 
 /// Where the members of a class that have the type are counted, if the class lists it.
-fn class_place(wiring: &Wiring, class: usize, kind: &Name) -> Option<usize>
+fn class_index(wiring: &Wiring, class: usize, kind: &Name) -> Option<usize>
     requires sound { IsSound wiring.now }
     requires class { class < length wiring.now.classes }
-    ensures is { result ≡ class_place wiring.now class kind.now }
+    ensures is { result ≡ class_index wiring.now class kind.now }
     ensures within { IfSome result (λ n. n < length wiring.now.classes * MAX_TYPES) }
 {
-    let number = type_place(wiring, class, kind)?;
+    let number = type_index(wiring, class, kind)?;
     Some(class * MAX_TYPES + number)
 }
 
 /// Where the members of the class asked for, if there is one, that have the type are counted.
-fn asked_place(wiring: &Wiring, asks: &Asks, kind: &Name) -> Option<usize>
+fn asked_index(wiring: &Wiring, asks: &Asks, kind: &Name) -> Option<usize>
     requires sound { IsSound wiring.now }
-    ensures is { result ≡ asked_place wiring.now asks.now kind.now }
+    ensures is { result ≡ asked_index wiring.now asks.now kind.now }
     ensures within { IfSome result (λ n. n < length wiring.now.classes * MAX_TYPES) }
 {
     match asks {
         Asks::Plain(_) => None,
         Asks::Class(class) => {
             if (*class as usize) < wiring.classes.len() {
-                class_place(wiring, *class as usize, kind)
+                class_index(wiring, *class as usize, kind)
             } else {
                 None
             }
@@ -72,13 +72,13 @@ fn asked_place(wiring: &Wiring, asks: &Asks, kind: &Name) -> Option<usize>
 }
 
 /// Where the members of the class of a virtual node, if it asks for one, that have the type are counted.
-pub(crate) fn virt_place(wiring: &Wiring, virt: usize, kind: &Name) -> Option<usize>
+pub(crate) fn virt_index(wiring: &Wiring, virt: usize, kind: &Name) -> Option<usize>
     requires sound { IsSound wiring.now }
     requires virt { virt < length wiring.now.nodes }
-    ensures is { result ≡ asked_place wiring.now (virt_at wiring.now virt).asks kind.now }
+    ensures is { result ≡ asked_index wiring.now (virt_at wiring.now virt).asks kind.now }
     ensures within { IfSome result (λ n. n < length wiring.now.classes * MAX_TYPES) }
 {
-    asked_place(wiring, &wiring.nodes.as_slice()[virt].asks, kind)
+    asked_index(wiring, &wiring.nodes.as_slice()[virt].asks, kind)
 }
 
 /// Where the members of the class of a virtual node, if it asks for one, that have its type are counted.
@@ -86,10 +86,10 @@ fn own_place(wiring: &Wiring, mapping: &Mapping, virt: usize) -> Option<usize>
     requires sound { IsSound wiring.now }
     requires placed { length mapping.now.places ≡ length wiring.now.nodes }
     requires virt { virt < length wiring.now.nodes }
-    ensures is { result ≡ asked_place wiring.now (virt_at wiring.now virt).asks (slice_index_or mapping.now.places virt no_place).1 }
+    ensures is { result ≡ asked_index wiring.now (virt_at wiring.now virt).asks (slice_index_or mapping.now.places virt no_place).1 }
     ensures within { IfSome result (λ n. n < length wiring.now.classes * MAX_TYPES) }
 {
-    virt_place(wiring, virt, &mapping.places.as_slice()[virt].1)
+    virt_index(wiring, virt, &mapping.places.as_slice()[virt].1)
 }
 
 impl Members {
@@ -152,7 +152,7 @@ impl Members {
         self.own[virt] = place;
     }
 
-    /// A virtual node, which the mapping has at its old place, goes to another one; `into` is where it is counted then.
+    /// A virtual node, which the mapping has at its old place, goes to another one; `into` is the index at which it is counted then.
     pub(crate) fn go(
         &mut self,
         _wiring: &Wiring,
@@ -165,7 +165,7 @@ impl Members {
         requires placed { length _mapping.now.places ≡ length _wiring.now.nodes }
         requires counted { AreMembers _wiring.now _mapping.now self.old }
         requires virt { virt < length _wiring.now.nodes }
-        requires into { into ≡ asked_place _wiring.now (virt_at _wiring.now virt).asks _place.now.1 }
+        requires into { into ≡ asked_index _wiring.now (virt_at _wiring.now virt).asks _place.now.1 }
         ensures { AreMembers _wiring.now (placed_at _mapping.now virt _place.now) self.new }
     {
         let from = self.counted(virt);
@@ -186,7 +186,7 @@ impl Members {
         requires placed { length mapping.now.places ≡ length wiring.now.nodes }
         requires counted { AreMembers wiring.now mapping.now self.now }
         requires class { class < length wiring.now.classes }
-        requires at { at ≡ class_place wiring.now class kind.now }
+        requires at { at ≡ class_index wiring.now class kind.now }
         ensures { result ≡ list_any (same_name kind.now) (types_of class wiring.now.nodes mapping.now.places) }
     {
         match at {
@@ -208,7 +208,7 @@ impl Members {
         requires placed { length mapping.now.places ≡ length wiring.now.nodes }
         requires counted { AreMembers wiring.now mapping.now self.now }
         requires class { class < length wiring.now.classes }
-        requires at { at ≡ class_place wiring.now class kind.now }
+        requires at { at ≡ class_index wiring.now class kind.now }
         ensures is { result ≡ kind_soft_in wiring.now mapping.now class kind.now }
         ensures small { result ≤ MAX_SOFT_WEIGHT }
     {
@@ -232,7 +232,7 @@ impl Members {
         requires sound { IsSound wiring.now }
         requires placed { length mapping.now.places ≡ length wiring.now.nodes }
         requires counted { AreMembers wiring.now mapping.now self.now }
-        requires at { at ≡ asked_place wiring.now asks.now kind.now }
+        requires at { at ≡ asked_index wiring.now asks.now kind.now }
         ensures is { result ≡ asked_soft_in wiring.now mapping.now asks.now kind.now }
         ensures small { result ≤ MAX_SOFT_WEIGHT }
     {
@@ -286,7 +286,7 @@ impl Members {
         requires placed { length mapping.now.places ≡ length wiring.now.nodes }
         requires counted { AreMembers wiring.now mapping.now self.now }
         requires virt { virt < length wiring.now.nodes }
-        requires at { at ≡ asked_place wiring.now (virt_at wiring.now virt).asks kind.now }
+        requires at { at ≡ asked_index wiring.now (virt_at wiring.now virt).asks kind.now }
         ensures is { result ≡ asked_soft_in wiring.now mapping.now (virt_at wiring.now virt).asks kind.now }
         ensures small { result ≤ MAX_SOFT_WEIGHT }
     {

@@ -4,7 +4,7 @@ ghost use Rattle.node_maps.specs.NodeMaps.{candidates, plugs_of};
 ghost use Rattle.node_maps.specs.Moved.{may_share as may_share_in};
 ghost use Rattle.map_state.specs.States.{IsIdle};
 ghost use Rattle.map_state.specs.Placings.{IsPlacing, IsTrying};
-ghost use Rattle.map_state.specs.Hosted.{guests_at};
+ghost use Rattle.map_state.specs.Hosted.{hosted_at};
 ghost use Rattle.map_state.specs.Tables.{IsSearch};
 
 use crate::give::{are_in_order, list_ends, serve_listed};
@@ -21,7 +21,7 @@ pub struct Placing {
     /// By virtual node that is placed its node.
     pub(crate) hosts: Vec<u16>,
     /// By node how many virtual nodes are on it.
-    pub(crate) guests: Vec<u16>,
+    pub(crate) hosted: Vec<u16>,
     pub(crate) given: Given,
     pub(crate) listed: Vec<u16>,
 }
@@ -37,7 +37,7 @@ impl Placing {
         Ok(Placing {
             places: Vec::new(alloc),
             hosts: Vec::new(alloc),
-            guests: vec![in alloc; 0u16; lab.nodes().len()]?,
+            hosted: vec![in alloc; 0u16; lab.nodes().len()]?,
             given: Given::nothing(alloc, lab)?,
             listed: Vec::new(alloc),
         })
@@ -48,9 +48,9 @@ impl Placing {
     pub fn is_full(&self, _search: &Search, room: Room) -> bool
         requires placing { IsPlacing _search.now self.now }
         requires node { room.node.0 < length _search.now.mapper.lab.now.nodes }
-        ensures { IsTrue result ↔ (room.most ≤ guests_at self.now.places.items room.node.0) }
+        ensures { IsTrue result ↔ (room.most ≤ hosted_at self.now.places.items room.node.0) }
     {
-        self.guests[room.node.0 as usize] >= room.most
+        self.hosted[room.node.0 as usize] >= room.most
     }
 
     /// Whether those on the node of a place may share it, with the virtual node that is tried there.
@@ -59,7 +59,7 @@ impl Placing {
         ensures { IfOk result (λ yes. yes
             ≡ may_share_in search.now.mapper.lab.now search.now.mapper.wiring.now self.now.places.items place.now.0.0) }
     {
-        if self.guests[place.0.0 as usize] == 0 {
+        if self.hosted[place.0.0 as usize] == 0 {
             return Ok(true);
         }
         let mapper = search.mapper;
@@ -75,7 +75,7 @@ impl Placing {
         requires trying { IsTrying search.now place.now self.old }
         ensures places { OnOk result (self.new.places ≡ self.old.places) }
         ensures hosts { OnOk result (self.new.hosts ≡ self.old.hosts) }
-        ensures guests { OnOk result (self.new.guests ≡ self.old.guests) }
+        ensures hosted { OnOk result (self.new.hosted ≡ self.old.hosted) }
         ensures idle { OnOk result (IsIdle search.now.mapper.lab.now self.new.given) }
         ensures served { IfOk result (λ yes. yes
             ≡ is_some (plugs_of search.now.mapper.lab.now search.now.mapper.wiring.now self.old.places.items)) }
@@ -96,7 +96,7 @@ impl Placing {
         requires trying { IsTrying search.now place.now self.old }
         ensures places { OnOk result (self.new.places ≡ self.old.places) }
         ensures hosts { OnOk result (self.new.hosts ≡ self.old.hosts) }
-        ensures guests { OnOk result (self.new.guests ≡ self.old.guests) }
+        ensures hosted { OnOk result (self.new.hosted ≡ self.old.hosted) }
         ensures idle { OnOk result (IsIdle search.now.mapper.lab.now self.new.given) }
         ensures keeps { IfOk result (λ yes. yes
             ≡ (may_share_in search.now.mapper.lab.now search.now.mapper.wiring.now self.old.places.items place.now.0.0
@@ -143,7 +143,7 @@ impl Placing {
         ensures placing { OnOk result (IsPlacing _search.now self.new) }
         ensures places { OnOk result (self.new.places.items ≡ self.old.places.items ++ place ∷ []) }
     {
-        self.guests[place.0.0 as usize] += 1;
+        self.hosted[place.0.0 as usize] += 1;
         self.hosts.push(place.0.0)?;
         self.places.push(place)?;
         Ok(())

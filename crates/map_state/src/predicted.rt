@@ -11,8 +11,8 @@ ghost use Rattle.trunk_sums.specs.Summed.{IsSummed};
 ghost use Rattle.trunk_sums.specs.Totals.{used_of_all};
 ghost use Rattle.node_maps.specs.NodeMaps.{candidates, plugs_of};
 ghost use Rattle.map_state.specs.States.{IsFeasibleState, IsMapState};
-ghost use Rattle.map_state.specs.Predicted.{IsLone};
-ghost use Rattle.map_state.specs.Members.{asked_place};
+ghost use Rattle.map_state.specs.Predicted.{CanPredict};
+ghost use Rattle.map_state.specs.Members.{asked_index};
 ghost use Rattle.map_state.specs.Nodes.{changes_of, numbers_of};
 ghost use Rattle.map_state.specs.Hosted.{placed_at};
 ghost use Rattle.map_state.specs.Tables.{IsSearch};
@@ -78,19 +78,19 @@ fn uses_in_order(
 
 impl MapState {
     /// Whether a virtual node is alone where it is, the node of a place is empty, and each of its ends fits the interface of its own place there.
-    fn is_lone(&self, search: &Search, virt: usize, place: &Place) -> bool
+    fn can_predict(&self, search: &Search, virt: usize, place: &Place) -> bool
         requires search { IsSearch search.now }
         requires state { IsMapState search.now self.now }
         requires virt { virt < length search.now.mapper.wiring.now.nodes }
         requires node { place.now.0.0 < length search.now.mapper.lab.now.nodes }
-        ensures { IsTrue result ↔ IsLone search.now self.now.mapping.places virt place.now }
+        ensures { IsTrue result ↔ CanPredict search.now self.now.mapping.places virt place.now }
     {
         let from = self.mapping.places.as_slice()[virt].0;
-        let guests = &self.hosting.guests;
-        if guests[from.0 as usize] != 1 {
+        let hosted = &self.hosting.hosted;
+        if hosted[from.0 as usize] != 1 {
             return false;
         }
-        if guests[place.0.0 as usize] != 0 {
+        if hosted[place.0.0 as usize] != 0 {
             return false;
         }
         are_own_in_order(search, virt, place.0)
@@ -111,7 +111,7 @@ impl MapState {
             ≤ cost number search.now.mapper.lab.now search.now.mapper.wiring.now
             (record { places = (placed_at self.now.mapping virt place.now).places; plugs = plugs }) }
         ensures counted { result.counted
-            ≡ asked_place search.now.mapper.wiring.now (virt_at search.now.mapper.wiring.now virt).asks place.now.1 }
+            ≡ asked_index search.now.mapper.wiring.now (virt_at search.now.mapper.wiring.now virt).asks place.now.1 }
     {
         let mapper = search.mapper;
         // for the prover: it tells what every lab keeps
@@ -147,8 +147,8 @@ impl MapState {
         requires virt { virt < length search.now.mapper.wiring.now.nodes }
         requires among { Contains (slice_index_or (candidates search.now.mapper.lab.now search.now.mapper.free.now search.now.mapper.wiring.now) virt [])
             place.now }
-        ensures told { IsSome self.now.sums → (IsSome result ↔ IsLone search.now self.now.mapping.places virt place.now) }
-        ensures lone { IsSome result → IsLone search.now self.now.mapping.places virt place.now }
+        ensures told { IsSome self.now.sums → (IsSome result ↔ CanPredict search.now self.now.mapping.places virt place.now) }
+        ensures lone { IsSome result → CanPredict search.now self.now.mapping.places virt place.now }
         ensures parts { IfSome result (λ told. (plugs : List IfaceIdSeen)
             → plugs_of search.now.mapper.lab.now search.now.mapper.wiring.now (placed_at self.now.mapping virt place.now).places ≡ Some plugs
             → told.parts ≡ parts_of search.now.mapper.lab.now search.now.mapper.wiring.now
@@ -157,12 +157,12 @@ impl MapState {
         ensures soft { IfSome result (λ told. told.parts.soft
             ≡ soft_in search.now.mapper.lab.now search.now.mapper.wiring.now (placed_at self.now.mapping virt place.now)) }
         ensures counted { IfSome result (λ told. told.counted
-            ≡ asked_place search.now.mapper.wiring.now (virt_at search.now.mapper.wiring.now virt).asks place.now.1) }
+            ≡ asked_index search.now.mapper.wiring.now (virt_at search.now.mapper.wiring.now virt).asks place.now.1) }
     {
         let Some(sums) = &self.sums else {
             return None;
         };
-        if !self.is_lone(search, virt, place) {
+        if !self.can_predict(search, virt, place) {
             return None;
         }
         let mapper = search.mapper;

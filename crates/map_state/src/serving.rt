@@ -44,7 +44,7 @@ impl MapState {
         let mapper = search.mapper;
         // for the prover: it tells what every lab keeps
         let _kept = mapper.lab.range();
-        if self.hosting.guests[node.0 as usize] <= 1 {
+        if self.hosting.hosted[node.0 as usize] <= 1 {
             return Ok(true);
         }
         let nodes = mapper.wiring.nodes.as_slice();
@@ -142,7 +142,7 @@ impl MapState {
         changed_keep_f7(search, &self.mapping, &self.back)
     }
 
-    /// Makes what is planned, for good.
+    /// Applies the planned plugs to the mapping and to the sums of trunks, for good.
     fn adopt(&mut self, alloc: Global, search: &Search)
         requires search { IsSearch search.now }
         requires state { IsMapState search.now self.old }

@@ -7,7 +7,7 @@ ghost use Rattle.lab_model.specs.Rules.{place_at};
 ghost use Rattle.node_maps.specs.NodeMaps.{candidates, IsChoice, node_map, plugs_of};
 ghost use Rattle.node_maps.specs.Moved.{KeepsPlaces};
 ghost use Rattle.node_maps.specs.Rooms.{room_of};
-ghost use Rattle.map_state.specs.Members.{asked_place};
+ghost use Rattle.map_state.specs.Members.{asked_index};
 ghost use Rattle.map_state.specs.States.{IsMapState, IsFeasibleState, IsPlanned, Was};
 ghost use Rattle.map_state.specs.Tables.{IsSearch};
 
@@ -211,7 +211,7 @@ impl MapState {
         is_taken(
             search.mapper.lab,
             place,
-            self.hosting.guests[place.0.0 as usize] - 1,
+            self.hosting.hosted[place.0.0 as usize] - 1,
         )
     }
 
@@ -230,7 +230,7 @@ impl MapState {
             ≡ None }
     {
         let from = self.mapping.places.as_slice()[virt].0;
-        from.0 != room.node.0 && self.hosting.guests[room.node.0 as usize] >= room.most
+        from.0 != room.node.0 && self.hosting.hosted[room.node.0 as usize] >= room.most
     }
 
     /// A virtual node goes to another of its candidates; the plugs stay.
@@ -262,13 +262,13 @@ impl MapState {
         requires search { IsSearch search.now }
         requires state { IsMapState search.now self.now }
         requires virt { virt < length search.now.mapper.wiring.now.nodes }
-        ensures { result ≡ asked_place search.now.mapper.wiring.now (virt_at search.now.mapper.wiring.now virt).asks (place_at self.now.mapping virt).1 }
+        ensures { result ≡ asked_index search.now.mapper.wiring.now (virt_at search.now.mapper.wiring.now virt).asks (place_at self.now.mapping virt).1 }
     {
         self.hosting.members.counted(virt)
     }
 
-    /// A virtual node goes to another of its candidates; the plugs stay. What comes of that is known.
-    pub fn place_known(
+    /// A virtual node goes to another of its candidates; the plugs stay. The outcome was predicted.
+    pub fn place_predicted(
         &mut self,
         alloc: Global,
         search: &Search,
@@ -282,14 +282,14 @@ impl MapState {
         requires among { Contains (slice_index_or (candidates search.now.mapper.lab.now search.now.mapper.free.now search.now.mapper.wiring.now) virt [])
             place }
         requires soft { outcome.soft ≡ soft_in search.now.mapper.lab.now search.now.mapper.wiring.now (placed_at self.old.mapping virt place) }
-        requires counted { outcome.counted ≡ asked_place search.now.mapper.wiring.now (virt_at search.now.mapper.wiring.now virt).asks place.1 }
+        requires counted { outcome.counted ≡ asked_index search.now.mapper.wiring.now (virt_at search.now.mapper.wiring.now virt).asks place.1 }
         ensures state { IsMapState search.now self.new }
         ensures mapping { self.new.mapping ≡ placed_at self.old.mapping virt place }
         ensures sums { self.new.sums ≡ self.old.sums }
         ensures back { self.new.back.items ≡ self.old.back.items }
     {
         let mapper = search.mapper;
-        self.hosting.place_known(
+        self.hosting.place_predicted(
             alloc,
             mapper.lab,
             mapper.wiring,
@@ -350,7 +350,7 @@ impl MapState {
         Ok(both)
     }
 
-    /// Makes what is planned.
+    /// Applies the planned plugs to the mapping and to the sums of trunks, and notes how they are undone.
     fn make(&mut self, alloc: Global, search: &Search) -> Result<(), Memory>
         requires search { IsSearch search.now }
         requires state { IsMapState search.now self.old }

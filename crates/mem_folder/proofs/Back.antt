@@ -32,7 +32,7 @@ begun_at newest old olds trace is begun (inl same) =
     (subst (λ (l : List Event). take (length l) trace ≡ l) (sym is) (take_all (length trace) trace (omega arith)))
 begun_at newest old olds trace is begun (inr has) = begun old has
 
--- the trace behind a loss
+-- the trace after a loss
 pub lost_trace : (front items : List (Step × Sides)) (step : Step) (sides : Sides) (trace : List Event) (a b : List ℕ) → items ≡ front ++ (step, sides) ∷ [] → event_of (step, sides) ≡ Restarted a b
     → take (length (trace_of front)) trace ≡ trace_of front → trace_of items ≡ take (length (trace_of front)) trace ++ Restarted a b ∷ []
 lost_trace front items step sides trace a b is event begun =

@@ -13,7 +13,7 @@ use Rattle.mem_folder.specs.declared.sides.Sides.{Sides}
 pub pushed : (items : List (Step × Sides)) (step : Step) (sides : Sides) → trace_of (items ++ (step, sides) ∷ []) ≡ trace_of items ++ event_of (step, sides) ∷ []
 pushed items step sides = map-append event_of items ((step, sides) ∷ [])
 
--- a side behind a step more
+-- a side after a step more
 pub disk_more : (side : Side) (trace : List Event) (event : Event) (old new : Disk) → old ≡ disk side trace → new ≡ disk_after side old event → new ≡ disk side (trace ++ event ∷ [])
 disk_more side trace event old new was is = is ∙ ap (λ (d : Disk). disk_after side d event) was ∙ sym (disk_push side trace event)
 

@@ -7,7 +7,7 @@ use Rattle.folder.specs.Folders.{Held, Old}
 use Rattle.folder.specs.Lost.{Lost, newest}
 use Rattle.plant_mem.specs.Picks.{left_by}
 
--- the text that stands so many behind the newest one
+-- the text that stands so many after the newest one
 abbrev pub IsBack : ℕ → Held → Old → Type 0
 IsBack back h old = take 1 (drop back (newest h ∷ h.older)) ≡ old ∷ []
 

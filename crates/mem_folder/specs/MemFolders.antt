@@ -9,7 +9,7 @@ use Rattle.plant.specs.declared.step.Step.TheVariants as steps
 use Rattle.mem_folder.specs.declared.mem_folder.OldText.{OldText}
 use Rattle.mem_folder.specs.declared.sides.Sides.{Sides}
 
--- a step, with the sides behind it: so many bytes as were written are there, and so is what a start found
+-- a step, with the sides after it: so many bytes as were written are there, and so is what a start found
 abbrev pub event_of : Step × Sides → Event
 event_of (steps.Wrote side at start end, sides) = events.Wrote side at (take end (drop at (of_side side sides.a sides.b).reads.items))
 event_of (steps.Synced side, sides) = events.Synced side

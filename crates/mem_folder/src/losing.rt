@@ -10,7 +10,7 @@ use lab_base::Memory;
 use plant::{Pick, Step};
 use std::alloc::Global;
 
-/// The text that stands so many behind the newest one.
+/// The text that stands so many after the newest one.
 fn text_back(newest: OldText, olds: Vec<OldText>, back: usize) -> OldText
     requires { back ≤ length olds.items }
     ensures back { take 1 (drop back (newest ∷ olds.items)) ≡ result ∷ [] }
@@ -24,7 +24,7 @@ fn text_back(newest: OldText, olds: Vec<OldText>, back: usize) -> OldText
     }
 }
 
-/// The files of a text that is left: those that are there for the newest one, as behind a kill, and else a newer one that was not written whole.
+/// The files of a text that is left: those that are there for the newest one, as after a kill, and else a newer one that was not written whole.
 fn texts_left(alloc: Global, texts: Texts, left: Vec<u8>, back: usize) -> Result<Texts, Memory>
     requires { back ≡ 0 → text_in texts ≡ left.items }
     ensures { IfOk result (λ kept. text_in kept ≡ left.items) }
@@ -32,12 +32,12 @@ fn texts_left(alloc: Global, texts: Texts, left: Vec<u8>, back: usize) -> Result
     if back == 0 {
         Ok(texts)
     } else {
-        Texts::behind_loss(alloc, left)
+        Texts::after_loss(alloc, left)
     }
 }
 
 impl MemFolder {
-    /// Loses power, and is started again. Of what was not synced on the sides the pick leaves some. The text that is left stands so many behind
+    /// Loses power, and is started again. Of what was not synced on the sides the pick leaves some. The text that is left stands so many after
     /// the newest one.
     pub fn lose(self, pick: Pick, back: usize) -> Result<MemFolder, Memory>
         requires { back ≤ length (held_of self).older }

@@ -1,7 +1,7 @@
 ghost use Rattle.std.specs.Prelude.{◌≡◌};
 ghost use Rattle.plant.specs.Disks.{disk};
 ghost use Rattle.plant.specs.declared.step.Side.TheVariants.{A, B};
-ghost use Rattle.plant_mem.specs.Faces.{disk_of};
+ghost use Rattle.plant_mem.specs.MemSides.{disk_of};
 ghost use Rattle.mem_folder.specs.MemFolders.{trace_of, AreBegun};
 
 use crate::sides::Sides;
@@ -30,7 +30,7 @@ pub(crate) struct Stop {
 /// The files of a folder in memory. A run over it is cut off as by a kill where its user plans a stop, and it may lose power then.
 ///
 /// Its calls that change something count up to a stop: writes, syncs and cuts of sides, texts that take the name of the tables, and syncs of the
-/// text. A call that stops behind its effect leaves a text that was to take the name without it.
+/// text. A call that stops after its effect leaves a text that was to take the name without it.
 #[derive(Drop)]
 pub struct MemFolder {
     pub(crate) alloc: Global,

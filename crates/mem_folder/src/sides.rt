@@ -2,40 +2,40 @@ ghost use Rattle.std.specs.Prelude.{◌≡◌, ◌≤◌, ◌+◌, length, take,
 ghost use Rattle.plant.specs.Disks.{IsImage, at_once, on_side, same_side, shortened, synced, wrote};
 ghost use Rattle.plant.specs.Sides.{of_side};
 ghost use Rattle.plant.specs.declared.step.Side.TheVariants.{A, B};
-ghost use Rattle.plant_mem.specs.Faces.{disk_of};
+ghost use Rattle.plant_mem.specs.MemSides.{disk_of};
 ghost use Rattle.plant_mem.specs.Picks.{left_by};
 
 use lab_base::Memory;
 use plant::{Pick, Side};
-use plant_mem::Face;
+use plant_mem::MemSide;
 use std::alloc::Global;
 
 /// Both sides of the journal.
 #[derive(Drop)]
 pub(crate) struct Sides {
-    pub(crate) a: Face,
-    pub(crate) b: Face,
+    pub(crate) a: MemSide,
+    pub(crate) b: MemSide,
 }
 
 /// Writes on a side, where there is memory.
-fn put(face: &mut Face, at: usize, bytes: &[u8]) -> Result<(), Memory>
-    requires { at ≤ length (disk_of face.old).reads }
-    ensures ok { OnOk result (disk_of face.new ≡ wrote (disk_of face.old) at bytes.now) }
-    ensures written { OnOk result (take (length bytes.now) (drop at face.new.reads.items) ≡ bytes.now) }
-    ensures err { OnErr result (disk_of face.new ≡ disk_of face.old) }
+fn put(mem_side: &mut MemSide, at: usize, bytes: &[u8]) -> Result<(), Memory>
+    requires { at ≤ length (disk_of mem_side.old).reads }
+    ensures ok { OnOk result (disk_of mem_side.new ≡ wrote (disk_of mem_side.old) at bytes.now) }
+    ensures written { OnOk result (take (length bytes.now) (drop at mem_side.new.reads.items) ≡ bytes.now) }
+    ensures err { OnErr result (disk_of mem_side.new ≡ disk_of mem_side.old) }
 {
-    face.make_room(1, bytes.len())?;
-    face.put(at, bytes);
+    mem_side.make_room(1, bytes.len())?;
+    mem_side.put(at, bytes);
     Ok(())
 }
 
 /// Makes a side durable, where there is memory.
-fn sync(face: &mut Face) -> Result<(), Memory>
-    ensures ok { OnOk result (disk_of face.new ≡ synced (disk_of face.old)) }
-    ensures err { OnErr result (disk_of face.new ≡ disk_of face.old) }
+fn sync(mem_side: &mut MemSide) -> Result<(), Memory>
+    ensures ok { OnOk result (disk_of mem_side.new ≡ synced (disk_of mem_side.old)) }
+    ensures err { OnErr result (disk_of mem_side.new ≡ disk_of mem_side.old) }
 {
-    face.make_room(0, 0)?;
-    face.sync();
+    mem_side.make_room(0, 0)?;
+    mem_side.sync();
     Ok(())
 }
 
@@ -48,8 +48,8 @@ impl Sides {
         ensures b { IfOk result (λ sides. disk_of sides.b ≡ at_once []) }
     {
         Ok(Sides {
-            a: Face::new(alloc, 0, 0)?,
-            b: Face::new(alloc, 0, 0)?,
+            a: MemSide::new(alloc, 0, 0)?,
+            b: MemSide::new(alloc, 0, 0)?,
         })
     }
 

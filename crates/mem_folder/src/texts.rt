@@ -64,7 +64,7 @@ impl Texts {
 
     /// An older text, in the place of one that has the name of the tables and was not written whole.
     #[tactic(auto, using(crate::proofs::Left::alone, crate::proofs::Left::older))]
-    pub(crate) fn behind_loss(alloc: Global, text: Vec<u8>) -> Result<Texts, Memory>
+    pub(crate) fn after_loss(alloc: Global, text: Vec<u8>) -> Result<Texts, Memory>
         ensures { IfOk result (λ texts. text_in texts ≡ text.items) }
     {
         let mut torn = Vec::new(alloc);

@@ -48,7 +48,7 @@ follows-at used [] after s (x ∷ earlier) later a h len = absurd (omega (arith,
 follows-at used (r ∷ before) after s [] later a h len = absurd (omega (arith, len))
 follows-at used (r ∷ before) after s (x ∷ earlier) later a h len = follows-at (taken used x) before after s earlier later a h.1 (omega (arith, len))
 
--- an end without an address, behind those that have theirs
+-- an end without an address, after those that have theirs
 record Stuck (used : ℕ → Bool) (ends : List Seat) : Type 0 where
   before : List Seat
   seat : Seat

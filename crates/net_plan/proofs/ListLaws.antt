@@ -10,7 +10,7 @@ range_more f a j le =
     let next : (j + 1) - a ≡ (j - a) + 1 = omega arith in
     ap (λ (n : ℕ). map f (range_with_len a n)) next ∙ map-range_with_len_more f a (j - a) j (omega arith)
 
--- one element more behind those that a loop began with
+-- one element more after those that a loop began with
 pub push_range : {X : Type 0} (f : ℕ → X) (old so_far next : List X) (x : X) (a j : ℕ) → a ≤ j → so_far ≡ old ++ map f (range_with_len a (j - a)) → next ≡ so_far ++ x ∷ [] → x ≡ f j
     → next ≡ old ++ map f (range_with_len a ((j + 1) - a))
 push_range {X} f old so_far next x a j le before step is =

@@ -1,4 +1,4 @@
--- Names with a mark behind them.
+-- Names with a mark after them.
 use Rattle.std.specs.Prelude.{nat_le, decimal}
 use Rattle.std.proofs.Common.{◌≡◌, ℕ, ◌+◌, ◌^◌, ◌<◌, ◌≤◌, true, ◌&&◌, List, ◌++◌, length, ◌∙◌, arith, length-append}
 use Rattle.std.specs.Char.{is_ascii_digit}

@@ -71,7 +71,7 @@ link_segments l first ends = []
 abbrev pub member_segment : AskedLink → ℕ → (ℕ × VirtEnd) → Segment
 member_segment l first (i, e) = part l (l.name ++ (codes ".m" ++ decimal (i + 1))) (e ∷ delay_end (first + i) ∷ [])
 
--- behind these stands the segment that joins the delay nodes
+-- after these stands the segment that joins the delay nodes
 abbrev pub lan_segments : AskedLink → ℕ → List Segment
 lan_segments l first = map (member_segment l first) (enumerate_from 0 l.ends) ++ part l l.name (map delay_end (range_with_len first (length l.ends))) ∷ []
 

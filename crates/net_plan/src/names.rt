@@ -17,7 +17,7 @@ pub(crate) fn named(bytes: &[u8]) -> Name
     Name::read(bytes).unwrap()
 }
 
-/// The name of a link or LAN with a mark behind it.
+/// The name of a link or LAN with a mark after it.
 pub(crate) fn marked(alloc: Global, link: Name, mark: &[u8]) -> Result<Name, Memory>
     requires few { length link + length mark.now ≤ MAX_NAME }
     requires bytes { list_all is_name_byte mark.now ≡ true }
@@ -28,7 +28,7 @@ pub(crate) fn marked(alloc: Global, link: Name, mark: &[u8]) -> Result<Name, Mem
     Ok(named(text.bytes()))
 }
 
-/// The name of a link or LAN with a mark and a number behind it.
+/// The name of a link or LAN with a mark and a number after it.
 pub(crate) fn numbered(alloc: Global, link: Name, mark: &[u8], number: u64) -> Result<Name, Memory>
     requires few { length link + length mark.now ≤ MAX_NAME - NUMBER_DIGITS }
     requires bytes { list_all is_name_byte mark.now ≡ true }

@@ -8,10 +8,10 @@ use Rattle.virt_topo.specs.Ends.{end_nodes}
 use Rattle.virt_topo.specs.Soundness.{IsSound}
 use Rattle.lab_model.proofs.WiringLaws.{sound_ends}
 use Rattle.node_maps.specs.declared.ends.End.{End}
-use Rattle.node_maps.specs.NodeMaps.{end_of, ends_from, ends_of}
+use Rattle.node_maps.specs.NodeMaps.{segment_end, ends_from, ends_of}
 
 nodes_in : (n : ℕ) (s : Segment) (es : List VirtEnd) (rest : List Segment) → map (λ (e : End). e.node) (ends_from (n + 1) rest) ≡ end_nodes rest
-    → map (λ (e : End). e.node) (map (end_of n s) es ++ ends_from (n + 1) rest) ≡ map (λ e. e.node) es ++ end_nodes rest
+    → map (λ (e : End). e.node) (map (segment_end n s) es ++ ends_from (n + 1) rest) ≡ map (λ e. e.node) es ++ end_nodes rest
 nodes_in n s [] rest h = h
 nodes_in n s (e ∷ es) rest h = ap (λ (l : List ℕ). e.node ∷ l) (nodes_in n s es rest h)
 

@@ -104,7 +104,7 @@ kinds_known nodes n ones kinds k are lt alike = record {
         subst (λ (j : ℕ). AreOfOneKind (get_or nodes (get_or ones (get_or (kinds ++ k ∷ []) j 0) 0) no_virt) (get_or nodes j no_virt)) (sym same)
         (subst (λ (j : ℕ). AreOfOneKind (get_or nodes (get_or ones j 0) no_virt) (get_or nodes n no_virt)) (sym last) alike)
 
--- kinds are as they were where one more is behind them, which is none of them
+-- kinds are as they were where one more is after them, which is none of them
 kinds_more : (nodes : List VirtNode) (n : ℕ) (ones kinds : List ℕ) → n < length nodes
     → ((k : ℕ) → k < length ones → AreOfOneKind (get_or nodes (get_or ones k 0) no_virt) (get_or nodes n no_virt) → ⊥)
     → AreKinds nodes n ones kinds → AreKinds nodes n (ones ++ n ∷ []) kinds

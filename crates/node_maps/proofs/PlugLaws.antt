@@ -23,7 +23,7 @@ use Rattle.lab_model.specs.Uses.{no_iface, iface_at}
 use Rattle.lab_model.specs.Rules.{no_place, no_load, end_node, keeps_f5, Laid, load_at}
 use Rattle.lab_model.specs.Feasible.{AllPass}
 use Rattle.node_maps.specs.declared.ends.End.{End}
-use Rattle.node_maps.specs.NodeMaps.{end_of, ends_from, ends_of, load_of, may_take, first_iface, with_plug, laid_from, plugs_in, plugs_from, plugs_of}
+use Rattle.node_maps.specs.NodeMaps.{segment_end, ends_from, ends_of, load_of, may_take, first_iface, with_plug, laid_from, plugs_in, plugs_from, plugs_of}
 use Rattle.node_maps.proofs.EndLists.{same_nodes, on_nodes}
 
 abbrev pub no_id : IfaceId
@@ -146,7 +146,7 @@ gives lab places (e ∷ es) had laid placed eq =
 
 -- what ends put on their interfaces
 loads_in : (n : ℕ) (s : Segment) (es : List VirtEnd) (rest : List Segment) → map load_of (ends_from (n + 1) rest) ≡ loads_from (n + 1) rest
-    → map load_of (map (end_of n s) es ++ ends_from (n + 1) rest) ≡ replicate (length es) (wires.load_of n s) ++ loads_from (n + 1) rest
+    → map load_of (map (segment_end n s) es ++ ends_from (n + 1) rest) ≡ replicate (length es) (wires.load_of n s) ++ loads_from (n + 1) rest
 loads_in n s [] rest h = h
 loads_in n s (e ∷ es) rest h = ap (λ (l : List Load). wires.load_of n s ∷ l) (loads_in n s es rest h)
 

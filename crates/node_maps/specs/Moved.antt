@@ -4,12 +4,12 @@ use Rattle.phys_lab.specs.Labs.{Lab}
 use Rattle.virt_topo.specs.declared.wiring.Wiring.{Wiring}
 use Rattle.virt_topo.specs.Wirings.{virt_at}
 use Rattle.lab_model.specs.Shapes.{Place, node_at}
-use Rattle.lab_model.specs.Rules.{agree, guests, is_of_one_type, no_place}
+use Rattle.lab_model.specs.Rules.{agree, hosted, is_of_one_type, no_place}
 use Rattle.lab_model.specs.Feasible.{AllPass}
 
 -- F2 on one node among these places
 abbrev pub may_share : Lab → Wiring → List Place → ℕ → Bool
-may_share lab w places n = agree (node_at lab (record { 0 = n })).types (guests w.nodes places n)
+may_share lab w places n = agree (node_at lab (record { 0 = n })).types (hosted w.nodes places n)
 
 -- F3's words on classes of weight 1000 or more, for one virtual node
 abbrev pub has_class_type : Wiring → List Place → ℕ → Bool

@@ -61,13 +61,13 @@ pub record IsChoice (cs : List (List Place)) (places : List Place) : Type 0 wher
 -- THE INTERFACE RULE
 
 -- an end of segment n
-abbrev pub end_of : ℕ → Segment → VirtEnd → End
-end_of n s e = record { node = e.node; segment = n; multiplexed = s.multiplexed; kbps = s.kbps }
+abbrev pub segment_end : ℕ → Segment → VirtEnd → End
+segment_end n s e = record { node = e.node; segment = n; multiplexed = s.multiplexed; kbps = s.kbps }
 
 -- the ends of segments in their order, where the first segment has number n
 abbrev pub ends_from : ℕ → List Segment → List End
 ends_from n [] = []
-ends_from n (s ∷ segments) = map (end_of n s) s.ends ++ ends_from (n + 1) segments
+ends_from n (s ∷ segments) = map (segment_end n s) s.ends ++ ends_from (n + 1) segments
 
 abbrev pub ends_of : List Segment → List End
 ends_of segments = ends_from 0 segments

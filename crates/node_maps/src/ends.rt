@@ -1,6 +1,6 @@
 // The ends of a wiring, each with what it puts on its interface.
 ghost use Rattle.std.specs.Prelude.{◌≡◌, ◌≤◌, ◌++◌, map, length, IfOk, OnOk};
-ghost use Rattle.node_maps.specs.NodeMaps.{end_of, ends_of};
+ghost use Rattle.node_maps.specs.NodeMaps.{segment_end, ends_of};
 
 use lab_base::Memory;
 use std::alloc::Global;
@@ -20,7 +20,7 @@ pub struct End {
 }
 
 fn push_ends(listed: &mut Vec<End>, number: u16, segment: &Segment) -> Result<(), Memory>
-    ensures { OnOk result (listed.new.items ≡ listed.old.items ++ map (end_of number segment.now) segment.now.ends) }
+    ensures { OnOk result (listed.new.items ≡ listed.old.items ++ map (segment_end number segment.now) segment.now.ends) }
 {
     for end in segment.ends.as_slice() {
         listed.push(End {

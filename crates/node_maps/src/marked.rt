@@ -26,7 +26,7 @@ impl Model for Marked {
     ghost view = { λ a. marked_by_kind a.lists.items a.kinds.items };
 }
 
-/// Whether a node is marked; those behind the end of the marks are.
+/// Whether a node is marked; those beyond the end of the marks are.
 fn is_marked(nodes: &[bool], node: NodeId) -> bool
     ensures { result ≡ slice_index_or nodes.now node.0 true }
 {
@@ -114,7 +114,7 @@ pub(crate) fn copy_kinds(kinds: &Vec<usize>) -> Result<Vec<usize>, Memory>
 }
 
 impl Candidates {
-    /// By virtual node the numbers of its candidates on marked nodes; nodes behind the end of the marks are marked.
+    /// By virtual node the numbers of its candidates on marked nodes; nodes beyond the end of the marks are marked.
     pub fn marked(&self, alloc: Global, nodes: &[bool]) -> Result<Marked, Memory>
         ensures { IfOk result (λ marked. marked ≡ map (marked_of nodes.now) self.now) }
     {

@@ -7,7 +7,7 @@ use Rattle.lab_base.specs.Numbers.{number_of}
 use Rattle.lab_base.specs.declared.fault.Kind.{Kind}
 use Rattle.lab_base.specs.Names.{same_name}
 use Rattle.lab_base.proofs.Tests.{and_first}
-use Rattle.ns_build.specs.Words.{place_below, place_in}
+use Rattle.ns_build.specs.Words.{index_below, index_in}
 use Rattle.ns_build.specs.Checks.{◌>>=◌, each, need, refuse}
 
 -- a fault, and a value
@@ -40,18 +40,18 @@ each_keeps P add step (word ∷ words) x y p h =
     let t = then_ok (add x word) (λ more. each add more words) y h in
     each_keeps P add step words t.0 y (step x word t.0 p t.1) t.2
 
--- a place that a word stands for is below the count
-below_is : (count : ℕ) (digits : List ℕ) (o : Option ℕ) (place : ℕ) → place_below count digits o ≡ Some place → place < count
-below_is count digits None place h = absurd (let e : None ≡ Some place = h in cc)
-below_is count digits (Some number) place h = by (nat_lt number count && same_name digits (decimal number)) refl h
+-- an index that a word stands for is below the count
+below_is : (count : ℕ) (digits : List ℕ) (o : Option ℕ) (index : ℕ) → index_below count digits o ≡ Some index → index < count
+below_is count digits None index h = absurd (let e : None ≡ Some index = h in cc)
+below_is count digits (Some number) index h = by (nat_lt number count && same_name digits (decimal number)) refl h
   where
-    by : (t : Bool) → (nat_lt number count && same_name digits (decimal number)) ≡ t → cond t (Some number) None ≡ Some place → place < count
-    by true test e = let same : number ≡ place = cc in let less : number < count = ltb-true number count (and_first (nat_lt number count) (same_name digits (decimal number)) test) in omega arith
-    by false test e = absurd (let none : None ≡ Some place = e in cc)
+    by : (t : Bool) → (nat_lt number count && same_name digits (decimal number)) ≡ t → cond t (Some number) None ≡ Some index → index < count
+    by true test e = let same : number ≡ index = cc in let less : number < count = ltb-true number count (and_first (nat_lt number count) (same_name digits (decimal number)) test) in omega arith
+    by false test e = absurd (let none : None ≡ Some index = e in cc)
 
-pub place_is_below : (mark : List ℕ) (count : ℕ) (word : List ℕ) (place : ℕ) → place_in mark count word ≡ Some place → place < count
-place_is_below mark count word place h = by (starts_with nat_eq word mark) h
+pub index_is_below : (mark : List ℕ) (count : ℕ) (word : List ℕ) (index : ℕ) → index_in mark count word ≡ Some index → index < count
+index_is_below mark count word index h = by (starts_with nat_eq word mark) h
   where
-    by : (t : Bool) → cond t (place_below count (drop (length mark) word) (number_of 65534 (drop (length mark) word))) None ≡ Some place → place < count
-    by true e = below_is count (drop (length mark) word) (number_of 65534 (drop (length mark) word)) place e
-    by false e = absurd (let none : None ≡ Some place = e in cc)
+    by : (t : Bool) → cond t (index_below count (drop (length mark) word) (number_of 65534 (drop (length mark) word))) None ≡ Some index → index < count
+    by true e = below_is count (drop (length mark) word) (number_of 65534 (drop (length mark) word)) index e
+    by false e = absurd (let none : None ≡ Some index = e in cc)

@@ -26,29 +26,29 @@ pub map_over_at : {X : Type 0} (f : X → X) (xs ys : List X) (i : ℕ) (d : X) 
     → set ys i (f (get_or ys i d)) ≡ map f (take (i + 1) xs) ++ drop (i + 1) xs
 map_over_at f xs ys i d lt within was = map_over_more f xs ys i (get_or ys i d) lt was (get_or_default ys i d (get_or ys i d) within)
 
--- the network in which the node at a place is changed
-pub node_changed : (n m : Network) (change : NodeChange) (place at : ℕ) (x y : AskedNode) → n ≡ m → at ≡ place → at < length n.nodes → x ≡ get_or n.nodes at x → y ≡ node_with change x
-    → record n { nodes = set n.nodes at y } ≡ change_node m place change
-node_changed n m change place at x y is same lt element new =
+-- the network in which the node at an index is changed
+pub node_changed : (n m : Network) (change : NodeChange) (index at : ℕ) (x y : AskedNode) → n ≡ m → at ≡ index → at < length n.nodes → x ≡ get_or n.nodes at x → y ≡ node_with change x
+    → record n { nodes = set n.nodes at y } ≡ change_node m index change
+node_changed n m change index at x y is same lt element new =
     ap (λ (v : AskedNode). record n { nodes = set n.nodes at v }) new
     ∙ ap (λ (l : List AskedNode). record n { nodes = l }) (sym (changed-set (node_with change) at n.nodes x lt element))
     ∙ ap (λ (p : ℕ). change_node n p change) same
-    ∙ ap (λ (k : Network). change_node k place change) is
+    ∙ ap (λ (k : Network). change_node k index change) is
 
-pub node_none : (n m : Network) (change : NodeChange) (place at : ℕ) → n ≡ m → at ≡ place → length n.nodes ≤ at → m ≡ change_node m place change
-node_none n m change place at is same le =
-    subst (λ (k : Network). k ≡ change_node k place change) is
+pub node_none : (n m : Network) (change : NodeChange) (index at : ℕ) → n ≡ m → at ≡ index → length n.nodes ≤ at → m ≡ change_node m index change
+node_none n m change index at is same le =
+    subst (λ (k : Network). k ≡ change_node k index change) is
     (subst (λ (p : ℕ). n ≡ change_node n p change) same (ap (λ (l : List AskedNode). record n { nodes = l }) (sym (changed-none (node_with change) at n.nodes le))))
 
--- the network in which the link or LAN at a place is changed
-pub link_changed : (n m : Network) (change : LinkChange) (place : ℕ) (x y : AskedLink) → n ≡ m → place < length n.links → x ≡ get_or n.links place x → y ≡ link_with change x
-    → record n { links = set n.links place y } ≡ change_link m place change
-link_changed n m change place x y is lt element new =
-    ap (λ (v : AskedLink). record n { links = set n.links place v }) new
-    ∙ ap (λ (l : List AskedLink). record n { links = l }) (sym (changed-set (link_with change) place n.links x lt element))
-    ∙ ap (λ (k : Network). change_link k place change) is
+-- the network in which the link or LAN at an index is changed
+pub link_changed : (n m : Network) (change : LinkChange) (index : ℕ) (x y : AskedLink) → n ≡ m → index < length n.links → x ≡ get_or n.links index x → y ≡ link_with change x
+    → record n { links = set n.links index y } ≡ change_link m index change
+link_changed n m change index x y is lt element new =
+    ap (λ (v : AskedLink). record n { links = set n.links index v }) new
+    ∙ ap (λ (l : List AskedLink). record n { links = l }) (sym (changed-set (link_with change) index n.links x lt element))
+    ∙ ap (λ (k : Network). change_link k index change) is
 
-pub link_none : (n m : Network) (change : LinkChange) (place : ℕ) → n ≡ m → length n.links ≤ place → m ≡ change_link m place change
-link_none n m change place is le =
-    subst (λ (k : Network). k ≡ change_link k place change) is
-    (ap (λ (l : List AskedLink). record n { links = l }) (sym (changed-none (link_with change) place n.links le)))
+pub link_none : (n m : Network) (change : LinkChange) (index : ℕ) → n ≡ m → length n.links ≤ index → m ≡ change_link m index change
+link_none n m change index is le =
+    subst (λ (k : Network). k ≡ change_link k index change) is
+    (ap (λ (l : List AskedLink). record n { links = l }) (sym (changed-none (link_with change) index n.links le)))

@@ -9,7 +9,7 @@ use Rattle.ns_build.specs.Checks.{◌>>=◌, each}
 use Rattle.ns_build.specs.Gives.{Gives}
 
 module _ {X : Type 0} (add : X → List ℕ → Result X Kind) (elements : List (Bor (List ℕ))) (whole : Result X Kind) where
-  -- the word at i, and those behind it
+  -- the word at i, and those after it
   one : (x : X) (i : ℕ) (d : Bor (List ℕ)) → i < length elements → each add x (views (drop i elements)) ≡ whole
       → (add x (get_or elements i d).now >>= (λ more. each add more (views (drop (i + 1) elements)))) ≡ whole
   one x i d lt was =

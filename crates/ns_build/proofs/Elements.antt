@@ -64,8 +64,8 @@ any_position : {X : Type 0} (p : X → Bool) (xs : List X) → nat_lt (position_
 any_position p [] = refl
 any_position p (x ∷ xs) = one_before (p x) (position_or_len p xs) (length xs) (list_any p xs) (any_position p xs)
 
-pub place_below : {X : Type 0} (p : X → Bool) (xs : List X) (i : ℕ) → position p xs ≡ Some i → i < length xs
-place_below p xs i is = by (nat_lt (position_or_len p xs) (length xs)) refl is
+pub index_below : {X : Type 0} (p : X → Bool) (xs : List X) (i : ℕ) → position p xs ≡ Some i → i < length xs
+index_below p xs i is = by (nat_lt (position_or_len p xs) (length xs)) refl is
   where
     by : (t : Bool) → nat_lt (position_or_len p xs) (length xs) ≡ t → cond t (Some (position_or_len p xs)) None ≡ Some i → i < length xs
     by true lt e = let same : position_or_len p xs ≡ i = cc in let less : position_or_len p xs < length xs = ltb-true (position_or_len p xs) (length xs) lt in omega arith

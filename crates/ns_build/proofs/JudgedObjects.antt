@@ -24,7 +24,7 @@ use Rattle.ns_build.proofs.Quantities.{speed_fits, delay_fits}
 use Rattle.ns_build.proofs.KeepingEvents.{judged_at_fits}
 use Rattle.ns_build.proofs.KeepingLinks.{limits_of}
 use Rattle.ns_build.proofs.Fitting.{FitsNode, FitsLink, Fits}
-use Rattle.ns_build.proofs.Chains.{fault_of, okay, then_ok, need_ok, refuse_ok, ok_is, each_keeps, place_is_below}
+use Rattle.ns_build.proofs.Chains.{fault_of, okay, then_ok, need_ok, refuse_ok, ok_is, each_keeps, index_is_below}
 
 -- QUANTITIES
 
@@ -47,7 +47,7 @@ one_more n ends v are lt new = record {
 }
 
 node_below : (n : Network) (word : List ℕ) (v : ℕ) → need kinds.Node (node_of n word) ≡ Ok v → v < length n.nodes
-node_below n word v h = place_is_below (codes ":n") (length n.nodes) word v (need_ok kinds.Node (node_of n word) v h)
+node_below n word v h = index_is_below (codes ":n") (length n.nodes) word v (need_ok kinds.Node (node_of n word) v h)
 
 with_end_fits : (n : Network) (ends : List VirtEnd) (word : List ℕ) (more : List VirtEnd) → AreEnds n ends → with_end n ends word ≡ Ok more → AreEnds n more
 unfolding with_end

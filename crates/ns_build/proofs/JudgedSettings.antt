@@ -47,8 +47,8 @@ unfolding judged_fixed
 judged_fixed_fits n words task h =
     let form = then_ok (counted 3 words) _ task h in
     let v = then_ok (need kinds.Node (node_of n (word_at words 1))) _ task form.2 in
-    let place = then_ok (name_in (word_at words 2)) _ task v.2 in
-    subst (Fits n) (ok_is (tasks.ChangeNode v.0 (nodes.Fixed place.0)) task place.2) tt
+    let fixed = then_ok (name_in (word_at words 2)) _ task v.2 in
+    subst (Fits n) (ok_is (tasks.ChangeNode v.0 (nodes.Fixed fixed.0)) task fixed.2) tt
 
 -- the last number of an address is from 1 to 254
 address_fits : (word : List ℕ) (ip : ℕ) → address_in word ≡ Ok ip → is_address (Some ip) ≡ true

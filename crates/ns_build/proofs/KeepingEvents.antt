@@ -21,7 +21,7 @@ use Rattle.ns_build.specs.Checks.{need, refuse, word_at, counted, bandwidth_in, 
 use Rattle.ns_build.specs.Events.{time_in, is_form, rates_in, what_in, event_in, judged_at}
 use Rattle.ns_build.specs.Kept.{IsKept, IsKeptEvent, AllKeepLimits}
 use Rattle.ns_build.proofs.Fitting.{FitsEvent, Fits}
-use Rattle.ns_build.proofs.Chains.{fault_of, okay, then_ok, need_ok, refuse_ok, ok_is, place_is_below}
+use Rattle.ns_build.proofs.Chains.{fault_of, okay, then_ok, need_ok, refuse_ok, ok_is, index_is_below}
 use Rattle.ns_build.proofs.JudgedSettings.{loss_fits}
 use Rattle.ns_build.proofs.Quantities.{speed_fits, delay_fits}
 
@@ -75,10 +75,10 @@ event_kept : (line : ℕ) (n : Network) (at : ℕ) (parts : List (List ℕ)) (e 
 unfolding event_in
 event_kept line n at parts e h =
     let some = then_ok (refuse kinds.Event (length parts == 0)) _ e h in
-    let place = then_ok (need kinds.Link (link_of n (word_at parts 0))) _ e some.2 in
-    let what = then_ok (what_in parts) _ e place.2 in
-    let below : place.0 < length n.links = place_is_below (codes ":l") (length n.links) (word_at parts 0) place.0 (need_ok kinds.Link (link_of n (word_at parts 0)) place.0 place.1) in
-    subst (IsKeptEvent n) (ok_is (record { at = at; place = place.0; what = what.0; line = line }) e what.2) (record { known = below; limits = what_keeps parts what.0 what.1 })
+    let index = then_ok (need kinds.Link (link_of n (word_at parts 0))) _ e some.2 in
+    let what = then_ok (what_in parts) _ e index.2 in
+    let below : index.0 < length n.links = index_is_below (codes ":l") (length n.links) (word_at parts 0) index.0 (need_ok kinds.Link (link_of n (word_at parts 0)) index.0 index.1) in
+    subst (IsKeptEvent n) (ok_is (record { at = at; index = index.0; what = what.0; line = line }) e what.2) (record { known = below; limits = what_keeps parts what.0 what.1 })
 
 pub judged_at_fits : (line : ℕ) (n : Network) (words : List (List ℕ)) (task : Task) → judged_at line n words ≡ Ok task → Fits n task
 unfolding judged_at

@@ -169,13 +169,13 @@ members_after (links.Loss ppm) l h = h
 members_after (links.Multiplexed multiplexed) l h = h
 members_after (links.Address v ip) l h = ends_differ v ip l.ends ∙ h
 
-differ_after : (n : Network) (place : ℕ) (change : LinkChange) → FitsLinkChange n change → stands_again (λ a b. same_name a.name b.name) n.links ≡ false
-    → stands_again (λ a b. same_name a.name b.name) (changed_at (link_with change) place n.links) ≡ false
-differ_after n place (links.Name name) fit h = again_named (λ (x : AskedLink). x.name) name (link_with (links.Name name)) (λ x. refl) place n.links fit.free h
-differ_after n place (links.Loss ppm) fit h = again_kept (λ (a b : AskedLink). same_name a.name b.name) (link_with (links.Loss ppm)) (λ x y. refl) (λ x y. refl) place n.links ∙ h
-differ_after n place (links.Multiplexed multiplexed) fit h =
-    again_kept (λ (a b : AskedLink). same_name a.name b.name) (link_with (links.Multiplexed multiplexed)) (λ x y. refl) (λ x y. refl) place n.links ∙ h
-differ_after n place (links.Address v ip) fit h = again_kept (λ (a b : AskedLink). same_name a.name b.name) (link_with (links.Address v ip)) (λ x y. refl) (λ x y. refl) place n.links ∙ h
+differ_after : (n : Network) (index : ℕ) (change : LinkChange) → FitsLinkChange n change → stands_again (λ a b. same_name a.name b.name) n.links ≡ false
+    → stands_again (λ a b. same_name a.name b.name) (changed_at (link_with change) index n.links) ≡ false
+differ_after n index (links.Name name) fit h = again_named (λ (x : AskedLink). x.name) name (link_with (links.Name name)) (λ x. refl) index n.links fit.free h
+differ_after n index (links.Loss ppm) fit h = again_kept (λ (a b : AskedLink). same_name a.name b.name) (link_with (links.Loss ppm)) (λ x y. refl) (λ x y. refl) index n.links ∙ h
+differ_after n index (links.Multiplexed multiplexed) fit h =
+    again_kept (λ (a b : AskedLink). same_name a.name b.name) (link_with (links.Multiplexed multiplexed)) (λ x y. refl) (λ x y. refl) index n.links ∙ h
+differ_after n index (links.Address v ip) fit h = again_kept (λ (a b : AskedLink). same_name a.name b.name) (link_with (links.Address v ip)) (λ x y. refl) (λ x y. refl) index n.links ∙ h
 
 form_after : (n : Network) (change : LinkChange) → FitsLinkChange n change → (x : AskedLink) → HasForm (codes "tb.l") x.name → HasForm (codes "tb.l") (link_with change x).name
 form_after n (links.Name name) fit x h = has_form (codes "tb.l") fit.variable name fit.given
@@ -183,48 +183,48 @@ form_after n (links.Loss ppm) fit x h = h
 form_after n (links.Multiplexed multiplexed) fit x h = h
 form_after n (links.Address v ip) fit x h = h
 
-names_after : (n : Network) (place : ℕ) (change : LinkChange) → FitsLinkChange n change → AreNumbered numbered.Link 1 (map (λ (x : AskedLink). x.name) n.links)
-    → AreNumbered numbered.Link 1 (map (λ (x : AskedLink). x.name) (changed_at (link_with change) place n.links))
-names_after n place (links.Name name) fit h = numbered_named numbered.Link (λ (x : AskedLink). x.name) name (link_with (links.Name name)) (λ x. refl) (given_plain fit.variable name fit.given) 1 place n.links h
-names_after n place (links.Loss ppm) fit h = subst (AreNumbered numbered.Link 1) (sym (map-changed (λ (x : AskedLink). x.name) (link_with (links.Loss ppm)) place n.links (λ x. refl))) h
-names_after n place (links.Multiplexed multiplexed) fit h =
-    subst (AreNumbered numbered.Link 1) (sym (map-changed (λ (x : AskedLink). x.name) (link_with (links.Multiplexed multiplexed)) place n.links (λ x. refl))) h
-names_after n place (links.Address v ip) fit h = subst (AreNumbered numbered.Link 1) (sym (map-changed (λ (x : AskedLink). x.name) (link_with (links.Address v ip)) place n.links (λ x. refl))) h
+names_after : (n : Network) (index : ℕ) (change : LinkChange) → FitsLinkChange n change → AreNumbered numbered.Link 1 (map (λ (x : AskedLink). x.name) n.links)
+    → AreNumbered numbered.Link 1 (map (λ (x : AskedLink). x.name) (changed_at (link_with change) index n.links))
+names_after n index (links.Name name) fit h = numbered_named numbered.Link (λ (x : AskedLink). x.name) name (link_with (links.Name name)) (λ x. refl) (given_plain fit.variable name fit.given) 1 index n.links h
+names_after n index (links.Loss ppm) fit h = subst (AreNumbered numbered.Link 1) (sym (map-changed (λ (x : AskedLink). x.name) (link_with (links.Loss ppm)) index n.links (λ x. refl))) h
+names_after n index (links.Multiplexed multiplexed) fit h =
+    subst (AreNumbered numbered.Link 1) (sym (map-changed (λ (x : AskedLink). x.name) (link_with (links.Multiplexed multiplexed)) index n.links (λ x. refl))) h
+names_after n index (links.Address v ip) fit h = subst (AreNumbered numbered.Link 1) (sym (map-changed (λ (x : AskedLink). x.name) (link_with (links.Address v ip)) index n.links (λ x. refl))) h
 
-pub keeps_link_change : (n : Network) (place : ℕ) (change : LinkChange) → IsKept n → FitsLinkChange n change → IsKept (change_link n place change)
-keeps_link_change n place change k fit = record {
+pub keeps_link_change : (n : Network) (index : ℕ) (change : LinkChange) → IsKept n → FitsLinkChange n change → IsKept (change_link n index change)
+keeps_link_change n index change k fit = record {
   topo = topo;
   plain = k.plain;
   node_names = k.node_names;
-  link_names = names_after n place change fit k.link_names;
+  link_names = names_after n index change fit k.link_names;
   few_events = k.few_events;
-  events = λ e h. record { known = omega (arith, (k.events e h).known, length-changed (link_with change) place n.links); limits = (k.events e h).limits };
+  events = λ e h. record { known = omega (arith, (k.events e h).known, length-changed (link_with change) index n.links); limits = (k.events e h).limits };
 }
   where
     f : AskedLink → AskedLink
     f = link_with change
 
     after : Network
-    after = change_link n place change
+    after = change_link n index change
 
     topo : IsTopo (topo_of after)
     topo = record {
       few_nodes = k.topo.few_nodes;
-      few_links = omega (arith, length-changed f place n.links, k.topo.few_links);
+      few_links = omega (arith, length-changed f index n.links, k.topo.few_links);
       few_classes = k.topo.few_classes;
-      links = all_changed limits_link f place n.links (limits_after n change fit) k.topo.links;
+      links = all_changed limits_link f index n.links (limits_after n change fit) k.topo.links;
       classes = k.topo.classes;
       asks = asks_still n after refl (omega arith) k.topo.asks;
-      ends = all_changed (λ (x : AskedLink). list_all (λ e. nat_lt e.node (length n.nodes)) x.ends) f place n.links (ends_after n change) k.topo.ends;
+      ends = all_changed (λ (x : AskedLink). list_all (λ e. nat_lt e.node (length n.nodes)) x.ends) f index n.links (ends_after n change) k.topo.ends;
       nodes_differ = k.topo.nodes_differ;
-      links_differ = differ_after n place change fit k.topo.links_differ;
+      links_differ = differ_after n index change fit k.topo.links_differ;
       classes_differ = k.topo.classes_differ;
       node_names = k.topo.node_names;
-      link_names = λ x m. elim (Has-changed f place n.links x m) [
+      link_names = λ x m. elim (Has-changed f index n.links x m) [
         | inl a ↦ k.topo.link_names x a
         | inr r ↦ subst (λ (y : AskedLink). HasForm (codes "tb.l") y.name) r.2 (form_after n change fit r.0 (k.topo.link_names r.0 r.1))
       ];
       class_names = k.topo.class_names;
       types_differ = k.topo.types_differ;
-      members_differ = none_changed (λ (x : AskedLink). stands_again (λ a b. a.node == b.node) x.ends) f place n.links (members_after change) k.topo.members_differ;
+      members_differ = none_changed (λ (x : AskedLink). stands_again (λ a b. a.node == b.node) x.ends) f index n.links (members_after change) k.topo.members_differ;
     }

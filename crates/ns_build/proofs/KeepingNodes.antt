@@ -23,7 +23,7 @@ use Rattle.ns_build.specs.declared.task.NodeChange.{NodeChange}
 use Rattle.ns_build.specs.declared.task.NodeChange.TheVariants as nodes
 use Rattle.ns_build.specs.Networks.{Network, topo_of, next_node, fresh_node, asks_in, changed_at, node_with, change_node}
 use Rattle.ns_build.specs.Kept.{IsKept, AreNumbered}
-use Rattle.ns_build.proofs.Elements.{all_weak, all_push, all_changed, none_push, none_changed, Has-changed, length-changed, map-changed, place_below, no_place}
+use Rattle.ns_build.proofs.Elements.{all_weak, all_push, all_changed, none_push, none_changed, Has-changed, length-changed, map-changed, index_below, no_place}
 use Rattle.ns_build.proofs.NamesDiffer.{again_push, again_kept, again_named}
 use Rattle.ns_build.proofs.Numbering.{next_is_new, numbered_push, numbered_named, given_plain}
 use Rattle.ns_build.proofs.Fitting.{FitsNode, FitsNodeChange}
@@ -109,45 +109,45 @@ keeps_node n name k fit = subst (λ (x : List ℕ). IsKept (record n { nodes = n
 
 asks_known : (n : Network) (type : List ℕ) (o : Option ℕ) → position (λ (c : Class). same_name c.name type) n.classes ≡ o → knows_asked (topo_of n) (asks_in type o) ≡ true
 asks_known n type None is = refl
-asks_known n type (Some c) is = lt-ltb c (length n.classes) (place_below (λ (d : Class). same_name d.name type) n.classes c is)
+asks_known n type (Some c) is = lt-ltb c (length n.classes) (index_below (λ (d : Class). same_name d.name type) n.classes c is)
 
 -- a class has not the name of the type that is asked for, since that is where no class has it
 asks_free : (n : Network) (type : List ℕ) (o : Option ℕ) → position (λ (c : Class). same_name c.name type) n.classes ≡ o → (c : Class) → Has n.classes c → asks_type c.name (asks_in type o) ≡ false
 asks_free n type None is c m = none_has (λ (d : Class). same_name d.name type) n.classes c (no_place (λ (d : Class). same_name d.name type) n.classes is) m
-asks_free n type (Some place) is c m = refl
+asks_free n type (Some index) is c m = refl
 
 -- what the change leaves, or fits
 known_after : (n : Network) (change : NodeChange) → FitsNodeChange n change → (x : AskedNode) → knows_asked (topo_of n) x.asks ≡ true → knows_asked (topo_of n) (node_with change x).asks ≡ true
 known_after n (nodes.Name name) fit x h = h
 known_after n (nodes.Asks asks) (type, is) x h = subst (λ (a : Asks). knows_asked (topo_of n) a ≡ true) (sym is) (asks_known n type (position (λ (c : Class). same_name c.name type) n.classes) refl)
 known_after n (nodes.Os os) fit x h = h
-known_after n (nodes.Fixed place) fit x h = h
+known_after n (nodes.Fixed fixed) fit x h = h
 
 free_after : (n : Network) (change : NodeChange) → FitsNodeChange n change → (c : Class) → Has n.classes c → (x : AskedNode) → asks_type c.name x.asks ≡ false → asks_type c.name (node_with change x).asks ≡ false
 free_after n (nodes.Name name) fit c m x h = h
 free_after n (nodes.Asks asks) (type, is) c m x h = subst (λ (a : Asks). asks_type c.name a ≡ false) (sym is) (asks_free n type (position (λ (d : Class). same_name d.name type) n.classes) refl c m)
 free_after n (nodes.Os os) fit c m x h = h
-free_after n (nodes.Fixed place) fit c m x h = h
+free_after n (nodes.Fixed fixed) fit c m x h = h
 
 differ_after : (n : Network) (v : ℕ) (change : NodeChange) → FitsNodeChange n change → stands_again (λ a b. same_name a.name b.name) n.nodes ≡ false
     → stands_again (λ a b. same_name a.name b.name) (changed_at (node_with change) v n.nodes) ≡ false
 differ_after n v (nodes.Name name) fit h = again_named (λ (x : AskedNode). x.name) name (node_with (nodes.Name name)) (λ x. refl) v n.nodes fit.free h
 differ_after n v (nodes.Asks asks) fit h = again_kept (λ (a b : AskedNode). same_name a.name b.name) (node_with (nodes.Asks asks)) (λ x y. refl) (λ x y. refl) v n.nodes ∙ h
 differ_after n v (nodes.Os os) fit h = again_kept (λ (a b : AskedNode). same_name a.name b.name) (node_with (nodes.Os os)) (λ x y. refl) (λ x y. refl) v n.nodes ∙ h
-differ_after n v (nodes.Fixed place) fit h = again_kept (λ (a b : AskedNode). same_name a.name b.name) (node_with (nodes.Fixed place)) (λ x y. refl) (λ x y. refl) v n.nodes ∙ h
+differ_after n v (nodes.Fixed fixed) fit h = again_kept (λ (a b : AskedNode). same_name a.name b.name) (node_with (nodes.Fixed fixed)) (λ x y. refl) (λ x y. refl) v n.nodes ∙ h
 
 form_after : (n : Network) (change : NodeChange) → FitsNodeChange n change → (x : AskedNode) → HasForm (codes "tb.n") x.name → HasForm (codes "tb.n") (node_with change x).name
 form_after n (nodes.Name name) fit x h = has_form (codes "tb.n") fit.variable name fit.given
 form_after n (nodes.Asks asks) fit x h = h
 form_after n (nodes.Os os) fit x h = h
-form_after n (nodes.Fixed place) fit x h = h
+form_after n (nodes.Fixed fixed) fit x h = h
 
 names_after : (n : Network) (v : ℕ) (change : NodeChange) → FitsNodeChange n change → AreNumbered numbered.Node 1 (map (λ (x : AskedNode). x.name) n.nodes)
     → AreNumbered numbered.Node 1 (map (λ (x : AskedNode). x.name) (changed_at (node_with change) v n.nodes))
 names_after n v (nodes.Name name) fit h = numbered_named numbered.Node (λ (x : AskedNode). x.name) name (node_with (nodes.Name name)) (λ x. refl) (given_plain fit.variable name fit.given) 1 v n.nodes h
 names_after n v (nodes.Asks asks) fit h = subst (AreNumbered numbered.Node 1) (sym (map-changed (λ (x : AskedNode). x.name) (node_with (nodes.Asks asks)) v n.nodes (λ x. refl))) h
 names_after n v (nodes.Os os) fit h = subst (AreNumbered numbered.Node 1) (sym (map-changed (λ (x : AskedNode). x.name) (node_with (nodes.Os os)) v n.nodes (λ x. refl))) h
-names_after n v (nodes.Fixed place) fit h = subst (AreNumbered numbered.Node 1) (sym (map-changed (λ (x : AskedNode). x.name) (node_with (nodes.Fixed place)) v n.nodes (λ x. refl))) h
+names_after n v (nodes.Fixed fixed) fit h = subst (AreNumbered numbered.Node 1) (sym (map-changed (λ (x : AskedNode). x.name) (node_with (nodes.Fixed fixed)) v n.nodes (λ x. refl))) h
 
 pub keeps_node_change : (n : Network) (v : ℕ) (change : NodeChange) → IsKept n → FitsNodeChange n change → IsKept (change_node n v change)
 keeps_node_change n v change k fit = record { topo = topo; plain = k.plain; node_names = names_after n v change fit k.node_names; link_names = k.link_names; few_events = k.few_events; events = λ e h. record { known = (k.events e h).known; limits = (k.events e h).limits } }

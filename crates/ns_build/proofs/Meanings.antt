@@ -43,7 +43,7 @@ module _ (t : List ℕ) (n : Network) (i : Seen Network) (s : State Network) (fr
   failed (refused.Text fault) short run = MeaningOf.faulty short (begun (Err (refused.Text fault)) run)
   failed refused.Memory short run = tt
 
--- the line is that of the same place in what is read of the text
+-- the line is that of the same index in what is read of the text
 pub too_long : (t : List ℕ) (line : ℕ) → 65536 < length t → line ≡ line_at (take 65537 t) 65536 → HasMeaning t (Err (refused.Text (fault_on line kinds.Long)))
 unfolding HasMeaning
 too_long t line long is =

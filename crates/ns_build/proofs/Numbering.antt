@@ -58,10 +58,10 @@ numbered_push of k m (name ∷ names) sum h = (h.0, numbered_push of (k + 1) m n
 
 -- one is named anew
 pub numbered_named : {X : Type 0} (of : Numbered) (name_of : X → List ℕ) (name : List ℕ) (f : X → X) → ((x : X) → name_of (f x) ≡ name) → has_dot name ≡ false
-    → (k place : ℕ) (xs : List X) → AreNumbered of k (map name_of xs) → AreNumbered of k (map name_of (changed_at f place xs))
-numbered_named of name_of name f named plain k place [] h = h
+    → (k index : ℕ) (xs : List X) → AreNumbered of k (map name_of xs) → AreNumbered of k (map name_of (changed_at f index xs))
+numbered_named of name_of name f named plain k index [] h = h
 numbered_named of name_of name f named plain k zero (x ∷ xs) h = (inl (ap has_dot (named x) ∙ plain), h.1)
-numbered_named of name_of name f named plain k (suc place) (x ∷ xs) h = (h.0, numbered_named of name_of name f named plain (k + 1) place xs h.1)
+numbered_named of name_of name f named plain k (suc index) (x ∷ xs) h = (h.0, numbered_named of name_of name f named plain (k + 1) index xs h.1)
 
 -- A VARIABLE'S NAME has no dot
 word_byte : (b : ℕ) → is_word_byte b ≡ true → (b == 46) ≡ false

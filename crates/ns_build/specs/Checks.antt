@@ -27,9 +27,9 @@ need kind (Some x) = Ok x
 abbrev pub refuse : Kind → Bool → Result (Unit {0}) Kind
 refuse kind b = if b then Err kind else Ok tt
 
--- the word at a place, the first being 0
+-- the word at an index, the first being 0
 abbrev pub word_at : List (List ℕ) → ℕ → List ℕ
-word_at words place = slice_index_or words place []
+word_at words index = slice_index_or words index []
 
 -- there are so many words
 abbrev pub counted : ℕ → List (List ℕ) → Result (Unit {0}) Kind

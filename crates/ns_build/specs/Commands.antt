@@ -89,7 +89,7 @@ judged_run words = do
   form ← counted 2 words
   Ok tasks.Stop
 
--- the simulator's word, and a word behind it, on a line
+-- the simulator's word, and a word after it, on a line
 unfoldable pub judged_verb : ℕ → Network → Option Verb → List (List ℕ) → Result Task Kind
 judged_verb line n (Some verbs.MakeNode) words = judged_node n words
 judged_verb line n (Some verbs.DuplexLink) words = judged_link n words

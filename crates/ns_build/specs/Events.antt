@@ -20,7 +20,7 @@ time_in word = need kinds.Time (time_of word)
 abbrev pub is_form : ℕ → List ℕ → List (List ℕ) → Bool
 is_form count word parts = (length parts == count) && same_name (word_at parts 1) word
 
--- `rates BW DELAY LOSS` behind the word of a link or LAN
+-- `rates BW DELAY LOSS` after the word of a link or LAN
 unfoldable pub rates_in : List (List ℕ) → Result What Kind
 rates_in parts = do
   kbps ← bandwidth_in (word_at parts 2)
@@ -28,7 +28,7 @@ rates_in parts = do
   ppm ← loss_in (word_at parts 4)
   Ok (whats.Rates (record { kbps = kbps; micros = micros; ppm = ppm }))
 
--- `down`, `up` or `rates BW DELAY LOSS` behind the word of a link or LAN
+-- `down`, `up` or `rates BW DELAY LOSS` after the word of a link or LAN
 unfoldable pub what_in : List (List ℕ) → Result What Kind
 what_in parts =
     if is_form 2 (codes "down") parts then Ok whats.Down
@@ -39,9 +39,9 @@ what_in parts =
 unfoldable pub event_in : ℕ → Network → ℕ → List (List ℕ) → Result Planned Kind
 event_in line n at parts = do
   some ← refuse kinds.Event (length parts == 0)
-  place ← need kinds.Link (link_of n (word_at parts 0))
+  index ← need kinds.Link (link_of n (word_at parts 0))
   what ← what_in parts
-  Ok (record { at = at; place = place; what = what; line = line })
+  Ok (record { at = at; index = index; what = what; line = line })
 
 -- `$ns at TIME EVENT`
 unfoldable pub judged_at : ℕ → Network → List (List ℕ) → Result Task Kind

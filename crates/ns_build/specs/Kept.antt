@@ -23,7 +23,7 @@ AreNumbered of k (name ∷ names) = ((has_dot name ≡ false) ⊎ (name ≡ numb
 
 -- an event is of a link or LAN that is there, and its rates keep the limits
 pub record IsKeptEvent (n : Network) (e : Planned) : Type 0 where
-  pub known : e.place < length n.links
+  pub known : e.index < length n.links
   pub limits : KeepsLimits e.what
 
 -- the same of the rates of all events

@@ -1,4 +1,4 @@
--- The words that begin a command, and those behind the simulator's word.
+-- The words that begin a command, and those after the simulator's word.
 use Rattle.std.specs.Prelude.{ℕ, nat_eq, List, codes, Option, Some, None, if◌then◌else◌}
 use Rattle.std.specs.List.{starts_with}
 use Rattle.lab_base.specs.Names.{same_name}

@@ -39,10 +39,10 @@ topo_of n = record { nodes = n.nodes; links = n.links; classes = n.classes }
 
 -- the events that are asked for: the link or LAN of each has the name that it has in the end
 abbrev pub link_name : Network → ℕ → List ℕ
-link_name n place = slice_index_or (map (λ l. l.name) n.links) place []
+link_name n index = slice_index_or (map (λ l. l.name) n.links) index []
 
 abbrev pub named_event : Network → Planned → Event
-named_event n e = record { at = e.at; link = link_name n e.place; what = e.what; line = e.line }
+named_event n e = record { at = e.at; link = link_name n e.index; what = e.what; line = e.line }
 
 abbrev pub events_of : Network → List Event
 events_of n = map (named_event n) n.events
@@ -86,11 +86,11 @@ has_end v ends = list_any (λ e. e.node == v) ends
 abbrev pub is_on : ℕ → AskedLink → Bool
 is_on v l = has_end v l.ends
 
--- node v is on the link at this place
+-- node v is on the link at this index
 abbrev pub is_on_at : Network → ℕ → ℕ → Bool
-is_on_at n v place = slice_index_or (map (is_on v) n.links) place false
+is_on_at n v index = slice_index_or (map (is_on v) n.links) index false
 
--- the place of the only link or LAN that node v is on
+-- the index of the only link or LAN that node v is on
 abbrev pub only_link : Network → ℕ → Option ℕ
 only_link n v = if count_by (is_on v) n.links == 1 then position (is_on v) n.links else None
 
@@ -112,18 +112,18 @@ refuses_class n name =
 
 -- CHANGES
 
--- the element at this place is changed, if there is one
+-- the element at this index is changed, if there is one
 abbrev pub changed_at : {X : Type 0} → (X → X) → ℕ → List X → List X
-changed_at f place [] = []
+changed_at f index [] = []
 changed_at f zero (x ∷ xs) = f x ∷ xs
-changed_at f (suc place) (x ∷ xs) = x ∷ changed_at f place xs
+changed_at f (suc index) (x ∷ xs) = x ∷ changed_at f index xs
 
 -- what a node gets replaces what it had
 abbrev pub node_with : NodeChange → AskedNode → AskedNode
 node_with (nodes.Name name) v = record v { name = name }
 node_with (nodes.Asks asks) v = record v { asks = asks }
 node_with (nodes.Os os) v = record v { os = os }
-node_with (nodes.Fixed place) v = record v { fixed = Some place }
+node_with (nodes.Fixed fixed) v = record v { fixed = Some fixed }
 
 -- the end of node v has this address
 abbrev pub addressed : ℕ → ℕ → VirtEnd → VirtEnd

@@ -33,8 +33,8 @@ unfoldable pub judged_fixed : Network → List (List ℕ) → Result Task Kind
 judged_fixed n words = do
   form ← counted 3 words
   v ← need kinds.Node (node_of n (word_at words 1))
-  place ← name_in (word_at words 2)
-  Ok (tasks.ChangeNode v (nodes.Fixed place))
+  fixed ← name_in (word_at words 2)
+  Ok (tasks.ChangeNode v (nodes.Fixed fixed))
 
 -- `tb-set-ip NODE IP`
 unfoldable pub judged_ip : Network → List (List ℕ) → Result Task Kind

@@ -48,9 +48,9 @@ judged line n (word ∷ words) =
 
 -- NAMES
 
--- the name at a place of a list is the one of its number
+-- the name at an index of a list is the one of its number
 abbrev pub is_numbered : List ℕ → List (List ℕ) → ℕ → Bool
-is_numbered number names place = same_name number (slice_index_or names place [])
+is_numbered number names index = same_name number (slice_index_or names index [])
 
 -- a node, and a link or LAN, has the name
 abbrev pub has_node : Network → List ℕ → Bool

@@ -11,31 +11,31 @@ use Rattle.ns_build.specs.Networks.{Network}
 abbrev pub simulator_word : List ℕ
 simulator_word = codes ":ns"
 
--- a node, and a link or LAN, by its place
+-- a node, and a link or LAN, by its index
 abbrev pub node_word : ℕ → List ℕ
-node_word place = codes ":n" ++ decimal place
+node_word index = codes ":n" ++ decimal index
 
 abbrev pub link_word : ℕ → List ℕ
-link_word place = codes ":l" ++ decimal place
+link_word index = codes ":l" ++ decimal index
 
--- a place below `count` that these digits stand for, as they are printed
-abbrev pub place_below : ℕ → List ℕ → Option ℕ → Option ℕ
-place_below count digits None = None
-place_below count digits (Some place) = if nat_lt place count && same_name digits (decimal place) then Some place else None
+-- an index below `count` that these digits stand for, as they are printed
+abbrev pub index_below : ℕ → List ℕ → Option ℕ → Option ℕ
+index_below count digits None = None
+index_below count digits (Some index) = if nat_lt index count && same_name digits (decimal index) then Some index else None
 
--- the place that a word has behind such a mark
-abbrev pub place_in : List ℕ → ℕ → List ℕ → Option ℕ
-place_in mark count word =
+-- the index that a word has after such a mark
+abbrev pub index_in : List ℕ → ℕ → List ℕ → Option ℕ
+index_in mark count word =
     if starts_with nat_eq word mark
-    then place_below count (drop (length mark) word) (number_of 65534 (drop (length mark) word))
+    then index_below count (drop (length mark) word) (number_of 65534 (drop (length mark) word))
     else None
 
--- the place of the node, and of the link or LAN, that a word stands for
+-- the index of the node, and of the link or LAN, that a word stands for
 abbrev pub node_of : Network → List ℕ → Option ℕ
-node_of n word = place_in (codes ":n") (length n.nodes) word
+node_of n word = index_in (codes ":n") (length n.nodes) word
 
 abbrev pub link_of : Network → List ℕ → Option ℕ
-link_of n word = place_in (codes ":l") (length n.links) word
+link_of n word = index_in (codes ":l") (length n.links) word
 
 -- the same of links alone, or of LANs alone
 abbrev pub is_kind : Bool → Bool → Bool
@@ -44,7 +44,7 @@ is_kind false lan = not lan
 
 abbrev pub kept_kind : Network → Bool → Option ℕ → Option ℕ
 kept_kind n lan None = None
-kept_kind n lan (Some place) = if is_kind lan (slice_index_or (map (λ l. l.lan) n.links) place false) then Some place else None
+kept_kind n lan (Some index) = if is_kind lan (slice_index_or (map (λ l. l.lan) n.links) index false) then Some index else None
 
 abbrev pub link_of_kind : Network → Bool → List ℕ → Option ℕ
 link_of_kind n lan word = kept_kind n lan (link_of n word)

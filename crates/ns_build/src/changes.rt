@@ -51,7 +51,7 @@ fn change_node(node: &mut AskedNode, change: NodeChange)
         NodeChange::Name(name) => node.name = name,
         NodeChange::Asks(asks) => node.asks = asks,
         NodeChange::Os(os) => node.os = os,
-        NodeChange::Fixed(place) => node.fixed = Some(place),
+        NodeChange::Fixed(fixed) => node.fixed = Some(fixed),
     }
 }
 
@@ -102,21 +102,21 @@ impl Network {
         Ok(word)
     }
 
-    /// Changes the node at a place, if there is one.
-    fn change_node_at(&mut self, place: u16, change: NodeChange)
-        ensures { self.new ≡ networks.change_node self.old place change }
+    /// Changes the node at an index, if there is one.
+    fn change_node_at(&mut self, index: u16, change: NodeChange)
+        ensures { self.new ≡ networks.change_node self.old index change }
     {
-        let place = usize::from(place);
-        if place < self.nodes.len() {
-            change_node(&mut self.nodes[place], change);
+        let index = usize::from(index);
+        if index < self.nodes.len() {
+            change_node(&mut self.nodes[index], change);
         }
     }
 
-    /// Changes the link or LAN at a place, if there is one.
-    fn change_link_at(&mut self, alloc: Global, place: usize, change: LinkChange)
-        ensures { self.new ≡ networks.change_link self.old place change }
+    /// Changes the link or LAN at an index, if there is one.
+    fn change_link_at(&mut self, alloc: Global, index: usize, change: LinkChange)
+        ensures { self.new ≡ networks.change_link self.old index change }
     {
-        self.links.change(alloc, place, change);
+        self.links.change(alloc, index, change);
     }
 
     /// Carries a task out, and answers the command. On `Memory` nothing changes.
@@ -138,8 +138,8 @@ impl Network {
             Task::AddClass { class } => self.classes.push(class)?,
             Task::AddEvent { event } => self.events.push(event)?,
             Task::Nothing => {}
-            Task::ChangeNode { place, change } => self.change_node_at(place, change),
-            Task::ChangeLink { place, change } => self.change_link_at(alloc, place, change),
+            Task::ChangeNode { index, change } => self.change_node_at(index, change),
+            Task::ChangeLink { index, change } => self.change_link_at(alloc, index, change),
         }
         Ok(Called::Value(Text::new(alloc)))
     }

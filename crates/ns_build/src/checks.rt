@@ -22,11 +22,11 @@ pub(crate) fn need<T: Drop>(kind: Kind, value: Option<T>) -> Result<T, Kind>
     }
 }
 
-/// The word at a place, from 0; the empty word where there is none.
-pub(crate) fn word_at(words: &[Text], place: usize) -> &[u8]
-    ensures { result.now ≡ checks.word_at words.now place }
+/// The word at an index, from 0; the empty word where there is none.
+pub(crate) fn word_at(words: &[Text], index: usize) -> &[u8]
+    ensures { result.now ≡ checks.word_at words.now index }
 {
-    match words.get(place) {
+    match words.get(index) {
         Some(word) => word.bytes(),
         None => &[],
     }

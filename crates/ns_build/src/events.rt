@@ -29,11 +29,11 @@ fn time_in(word: &[u8]) -> Result<u64, Kind>
     need(Kind::Time, ns_words::time(word))
 }
 
-/// The part at a place, from 0; the empty word where there is none.
-fn part_at<'a>(parts: &[&'a [u8]], place: usize) -> &'a [u8]
-    ensures { result.now ≡ word_at (views parts.now) place }
+/// The part at an index, from 0; the empty word where there is none.
+fn part_at<'a>(parts: &[&'a [u8]], index: usize) -> &'a [u8]
+    ensures { result.now ≡ word_at (views parts.now) index }
 {
-    match parts.get(place) {
+    match parts.get(index) {
         Some(part) => part,
         None => &[],
     }
@@ -46,7 +46,7 @@ fn is_form(count: usize, word: &[u8], parts: &[&[u8]]) -> bool
     parts.len() == count && part_at(parts, 1) == word
 }
 
-/// `rates BW DELAY LOSS` behind the word of a link or LAN.
+/// `rates BW DELAY LOSS` after the word of a link or LAN.
 #[tactic(auto, unfolding(crate::specs::Events::rates_in))]
 fn rates_in(parts: &[&[u8]]) -> Result<What, Kind>
     ensures { result ≡ events.rates_in (views parts.now) }
@@ -57,7 +57,7 @@ fn rates_in(parts: &[&[u8]]) -> Result<What, Kind>
     Ok(What::Rates(Rates { kbps, micros, ppm }))
 }
 
-/// `down`, `up` or `rates BW DELAY LOSS` behind the word of a link or LAN.
+/// `down`, `up` or `rates BW DELAY LOSS` after the word of a link or LAN.
 #[tactic(auto, unfolding(crate::specs::Events::what_in))]
 fn what_in(parts: &[&[u8]]) -> Result<What, Kind>
     ensures { result ≡ events.what_in (views parts.now) }
@@ -80,11 +80,11 @@ impl Network {
         ensures { result ≡ events.event_in line self.now at (views parts.now) }
     {
         refuse(Kind::Event, parts.len() == 0)?;
-        let place = need(Kind::Link, self.link_of(part_at(parts, 0)))?;
+        let index = need(Kind::Link, self.link_of(part_at(parts, 0)))?;
         let what = what_in(parts)?;
         Ok(Planned {
             at,
-            place,
+            index,
             what,
             line,
         })
@@ -105,12 +105,12 @@ impl Network {
 
     /// The event with the name of its link or LAN.
     fn named_event(&self, event: &Planned) -> Event
-        requires { event.now.place < length self.now.links }
+        requires { event.now.index < length self.now.links }
         ensures { result ≡ networks.named_event self.now event.now }
     {
         Event {
             at: event.at,
-            link: self.links.as_slice()[event.place].name,
+            link: self.links.as_slice()[event.index].name,
             what: event.what,
             line: event.line,
         }
@@ -118,7 +118,7 @@ impl Network {
 
     /// The scheduled events, in text order.
     pub(crate) fn named_events(&self, alloc: Global) -> Result<Items<Event>, Memory>
-        requires { (e : Planned) → Has self.now.events e → e.place < length self.now.links }
+        requires { (e : Planned) → Has self.now.events e → e.index < length self.now.links }
         ensures { IfOk result (λ events. events ≡ networks.events_of self.now) }
     {
         let mut events = Items::new(alloc);

@@ -1,4 +1,4 @@
-//! The words that begin a command, and those behind the simulator's word.
+//! The words that begin a command, and those after the simulator's word.
 
 ghost use Rattle.std.specs.Prelude.{◌≡◌};
 ghost use Rattle.ns_build.specs.Keywords.{setting_of, keyword_of, verb_of};
@@ -22,7 +22,7 @@ pub(crate) enum Keyword {
     OtherSetting,
 }
 
-/// The word behind the simulator's word.
+/// The word after the simulator's word.
 #[derive(Clone, Copy, Drop)]
 pub(crate) enum Verb {
     MakeNode,
@@ -77,7 +77,7 @@ pub(crate) fn keyword_of(word: &[u8]) -> Option<Keyword>
     }
 }
 
-/// The verb that a word is behind the simulator's word.
+/// The verb that a word is after the simulator's word.
 pub(crate) fn verb_of(word: &[u8]) -> Option<Verb>
     ensures { result ≡ verb_of word.now }
 {

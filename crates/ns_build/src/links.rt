@@ -18,7 +18,7 @@ use virt_topo::{AskedLink, VirtEnd};
 #[derive(Drop)]
 pub(crate) struct Links {
     list: Vec<AskedLink>,
-    /// By node on a link or LAN, the place of its only one; None where it is on several.
+    /// By node on a link or LAN, the index of its only one; None where it is on several.
     places: IndexMap<u16, Option<usize>>,
 }
 
@@ -34,27 +34,27 @@ impl Model for Links {
     ghost invariant = { λ links. ArePlaces links.list.items links.places };
 }
 
-/// Notes a node as on the link or LAN at a place.
-fn note_end(places: &mut IndexMap<u16, Option<usize>>, place: usize, node: u16)
+/// Notes a node as on the link or LAN at an index.
+fn note_end(places: &mut IndexMap<u16, Option<usize>>, index: usize, node: u16)
     requires { 0 < spare places.old }
-    ensures noted { (v : ℕ) → get nat_eq places.new v ≡ (if node == v then Some (noted place (get nat_eq places.old node)) else get nat_eq places.old v) }
+    ensures noted { (v : ℕ) → get nat_eq places.new v ≡ (if node == v then Some (noted index (get nat_eq places.old node)) else get nat_eq places.old v) }
     ensures room { spare places.old ≤ spare places.new + 1 }
 {
     let noted = match places.get(&node) {
-        Some(Some(other)) => if *other == place { Some(place) } else { None },
+        Some(Some(other)) => if *other == index { Some(index) } else { None },
         Some(None) => None,
-        None => Some(place),
+        None => Some(index),
     };
     places.insert(node, noted).unwrap();
 }
 
-/// Notes the nodes of these ends as on the link or LAN at a place.
-fn note_ends(places: &mut IndexMap<u16, Option<usize>>, place: usize, ends: &[VirtEnd])
+/// Notes the nodes of these ends as on the link or LAN at an index.
+fn note_ends(places: &mut IndexMap<u16, Option<usize>>, index: usize, ends: &[VirtEnd])
     requires { length ends.now ≤ spare places.old }
-    ensures { (v : ℕ) → get nat_eq places.new v ≡ (if has_end v ends.now then Some (noted place (get nat_eq places.old v)) else get nat_eq places.old v) }
+    ensures { (v : ℕ) → get nat_eq places.new v ≡ (if has_end v ends.now then Some (noted index (get nat_eq places.old v)) else get nat_eq places.old v) }
 {
     for end in ends {
-        note_end(places, place, end.node);
+        note_end(places, index, end.node);
     }
 }
 
@@ -80,12 +80,12 @@ impl Links {
         self.list.len()
     }
 
-    /// The place of the only link or LAN that a node is on.
+    /// The index of the only link or LAN that a node is on.
     pub(crate) fn only(&self, node: u16) -> Option<usize>
         ensures { result ≡ (if count_by (is_on node) self.now == 1 then position (is_on node) self.now else None) }
     {
         match self.places.get(&node) {
-            Some(place) => *place,
+            Some(index) => *index,
             None => None,
         }
     }
@@ -101,12 +101,12 @@ impl Links {
         Ok(())
     }
 
-    /// Changes the link or LAN at a place, if there is one.
-    pub(crate) fn change(&mut self, alloc: Global, place: usize, change: LinkChange)
-        ensures { self.new ≡ changed_at (link_with change) place self.old }
+    /// Changes the link or LAN at an index, if there is one.
+    pub(crate) fn change(&mut self, alloc: Global, index: usize, change: LinkChange)
+        ensures { self.new ≡ changed_at (link_with change) index self.old }
     {
-        if place < self.list.len() {
-            change_link(alloc, &mut self.list[place], change);
+        if index < self.list.len() {
+            change_link(alloc, &mut self.list[index], change);
         }
     }
 

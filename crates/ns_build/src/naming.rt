@@ -29,66 +29,66 @@ fn has_link(name: Name, links: &[AskedLink]) -> bool
 }
 
 /// The name of an object by its number.
-fn number_name(of: Numbered, place: usize) -> Name
-    requires { place < u16.MAX }
-    ensures { result ≡ numbered_name_of of (place + 1) }
+fn number_name(of: Numbered, index: usize) -> Name
+    requires { index < u16.MAX }
+    ensures { result ≡ numbered_name_of of (index + 1) }
 {
-    numbered_name(of, place as u16 + 1)
+    numbered_name(of, index as u16 + 1)
 }
 
 impl Network {
-    /// Whether the node at a place still has the name by its number.
-    fn is_bare_node(&self, place: u16) -> bool
-        requires { place < u16.MAX }
-        ensures { result ≡ judges.is_numbered (numbered_name_of numbered.Node (place + 1)) (map (λ x. x.name) self.now.nodes) place }
+    /// Whether the node at an index still has the name by its number.
+    fn is_bare_node(&self, index: u16) -> bool
+        requires { index < u16.MAX }
+        ensures { result ≡ judges.is_numbered (numbered_name_of numbered.Node (index + 1)) (map (λ x. x.name) self.now.nodes) index }
     {
-        match self.nodes.get(usize::from(place)) {
-            Some(node) => number_name(Numbered::Node, usize::from(place)) == node.name,
+        match self.nodes.get(usize::from(index)) {
+            Some(node) => number_name(Numbered::Node, usize::from(index)) == node.name,
             None => false,
         }
     }
 
-    /// Whether the link or LAN at a place still has the name by its number.
-    fn is_bare_link(&self, place: usize) -> bool
-        requires { place < u16.MAX }
-        ensures { result ≡ judges.is_numbered (numbered_name_of numbered.Link (place + 1)) (map (λ x. x.name) self.now.links) place }
+    /// Whether the link or LAN at an index still has the name by its number.
+    fn is_bare_link(&self, index: usize) -> bool
+        requires { index < u16.MAX }
+        ensures { result ≡ judges.is_numbered (numbered_name_of numbered.Link (index + 1)) (map (λ x. x.name) self.now.links) index }
     {
-        match self.links.as_slice().get(place) {
-            Some(link) => number_name(Numbered::Link, place) == link.name,
+        match self.links.as_slice().get(index) {
+            Some(link) => number_name(Numbered::Link, index) == link.name,
             None => false,
         }
     }
 
-    /// Names the node at a place by a variable, if it still has the name by its number.
+    /// Names the node at an index by a variable, if it still has the name by its number.
     #[tactic(auto, unfolding(crate::specs::Tasks::named_node))]
-    fn name_node(&self, place: u16, variable: &[u8]) -> Result<Task, Kind>
-        requires { place < u16.MAX }
-        ensures { result ≡ judges.named_node self.now place variable.now }
+    fn name_node(&self, index: u16, variable: &[u8]) -> Result<Task, Kind>
+        requires { index < u16.MAX }
+        ensures { result ≡ judges.named_node self.now index variable.now }
     {
-        if !self.is_bare_node(place) {
+        if !self.is_bare_node(index) {
             return Ok(Task::Nothing);
         }
         let name = object_name_in(variable)?;
         refuse(Kind::Twice, has_node(name, &self.nodes))?;
         Ok(Task::ChangeNode {
-            place,
+            index,
             change: NodeChange::Name(name),
         })
     }
 
-    /// Names the link or LAN at a place by a variable, if it still has the name by its number.
+    /// Names the link or LAN at an index by a variable, if it still has the name by its number.
     #[tactic(auto, unfolding(crate::specs::Tasks::named_link))]
-    fn name_link(&self, place: usize, variable: &[u8]) -> Result<Task, Kind>
-        requires { place < u16.MAX }
-        ensures { result ≡ judges.named_link self.now place variable.now }
+    fn name_link(&self, index: usize, variable: &[u8]) -> Result<Task, Kind>
+        requires { index < u16.MAX }
+        ensures { result ≡ judges.named_link self.now index variable.now }
     {
-        if !self.is_bare_link(place) {
+        if !self.is_bare_link(index) {
             return Ok(Task::Nothing);
         }
         let name = object_name_in(variable)?;
         refuse(Kind::Twice, has_link(name, self.links.as_slice()))?;
         Ok(Task::ChangeLink {
-            place,
+            index,
             change: LinkChange::Name(name),
         })
     }

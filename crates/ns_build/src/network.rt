@@ -8,7 +8,7 @@ ghost use Rattle.ns_build.specs.Words as words;
 
 use crate::links::Links;
 use crate::task::Planned;
-use crate::words::{LINK, NODE, place_in};
+use crate::words::{LINK, NODE, index_in};
 use lab_base::{Items, Name};
 use std::alloc::Global;
 use std::marker::Model;
@@ -48,10 +48,10 @@ fn is_on(node: u16, link: &AskedLink) -> bool
     has_end(node, link.ends.as_slice())
 }
 
-/// The place of the class of a name.
+/// The index of the class of a name.
 fn class_named(name: Name, classes: &[Class]) -> Option<usize>
-    ensures place { result ≡ position (λ c. same_name c.name name) classes.now }
-    ensures fits { IfSome result (λ place. place < length classes.now) }
+    ensures index { result ≡ position (λ c. same_name c.name name) classes.now }
+    ensures fits { IfSome result (λ index. index < length classes.now) }
 {
     classes.iter().position(|class| class.name == name)
 }
@@ -89,43 +89,43 @@ impl Network {
         )
     }
 
-    /// The place of the node that a word stands for.
+    /// The index of the node that a word stands for.
     pub fn node_of(&self, word: &[u8]) -> Option<u16>
-        ensures place { result ≡ words.node_of self.now word.now }
-        ensures fits { IfSome result (λ place. place < u16.MAX) }
+        ensures index { result ≡ words.node_of self.now word.now }
+        ensures fits { IfSome result (λ index. index < u16.MAX) }
     {
-        place_in(NODE, self.nodes.len(), word)
+        index_in(NODE, self.nodes.len(), word)
     }
 
-    /// The place of the link or LAN that a word stands for.
+    /// The index of the link or LAN that a word stands for.
     pub fn link_of(&self, word: &[u8]) -> Option<usize>
-        ensures place { result ≡ words.link_of self.now word.now }
-        ensures fits { IfSome result (λ place. place < u16.MAX) }
+        ensures index { result ≡ words.link_of self.now word.now }
+        ensures fits { IfSome result (λ index. index < u16.MAX) }
     {
-        match place_in(LINK, self.links.len(), word) {
-            Some(place) => Some(usize::from(place)),
+        match index_in(LINK, self.links.len(), word) {
+            Some(index) => Some(usize::from(index)),
             None => None,
         }
     }
 
-    /// Whether there is a LAN at a place.
-    fn is_lan(&self, place: usize) -> bool
-        ensures { result ≡ slice_index_or (map (λ l. l.lan) self.now.links) place false }
+    /// Whether there is a LAN at an index.
+    fn is_lan(&self, index: usize) -> bool
+        ensures { result ≡ slice_index_or (map (λ l. l.lan) self.now.links) index false }
     {
-        match self.links.as_slice().get(place) {
+        match self.links.as_slice().get(index) {
             Some(link) => link.lan,
             None => false,
         }
     }
 
-    /// The place of the LAN, or else of the link, that a word stands for.
+    /// The index of the LAN, or else of the link, that a word stands for.
     pub fn link_of_kind(&self, lan: bool, word: &[u8]) -> Option<usize>
         ensures { result ≡ words.link_of_kind self.now lan word.now }
     {
         match self.link_of(word) {
-            Some(place) => {
-                if self.is_lan(place) == lan {
-                    Some(place)
+            Some(index) => {
+                if self.is_lan(index) == lan {
+                    Some(index)
                 } else {
                     None
                 }
@@ -134,17 +134,17 @@ impl Network {
         }
     }
 
-    /// Whether a node is on the link or LAN at a place.
-    pub fn is_on_at(&self, node: u16, place: usize) -> bool
-        ensures { result ≡ networks.is_on_at self.now node place }
+    /// Whether a node is on the link or LAN at an index.
+    pub fn is_on_at(&self, node: u16, index: usize) -> bool
+        ensures { result ≡ networks.is_on_at self.now node index }
     {
-        match self.links.as_slice().get(place) {
+        match self.links.as_slice().get(index) {
             Some(link) => is_on(node, link),
             None => false,
         }
     }
 
-    /// The place of the only link or LAN that a node is on.
+    /// The index of the only link or LAN that a node is on.
     pub fn only_link(&self, node: u16) -> Option<usize>
         ensures { result ≡ networks.only_link self.now node }
     {
@@ -157,7 +157,7 @@ impl Network {
         ensures { result ≡ networks.asks_of self.now name }
     {
         match class_named(name, &self.classes) {
-            Some(place) => Asks::Class(place as u16),
+            Some(index) => Asks::Class(index as u16),
             None => Asks::Plain(name),
         }
     }

@@ -48,12 +48,12 @@ impl Network {
         ensures { result ≡ commands.judged_node self.now words.now }
     {
         counted(2, words)?;
-        let place = self.nodes.len();
-        if place >= MAX_TOPOLOGY_NODES {
+        let index = self.nodes.len();
+        if index >= MAX_TOPOLOGY_NODES {
             return Err(Kind::Limit);
         }
         Ok(Task::AddNode {
-            name: numbered_name(Numbered::Node, place as u16 + 1),
+            name: numbered_name(Numbered::Node, index as u16 + 1),
         })
     }
 
@@ -70,10 +70,10 @@ impl Network {
         requires { length self.now.links < MAX_LINKS }
         ensures { result ≡ commands.new_link self.now lan kbps micros ends }
     {
-        let place = self.links.len();
+        let index = self.links.len();
         Task::AddLink {
             link: AskedLink {
-                name: numbered_name(Numbered::Link, place as u16 + 1),
+                name: numbered_name(Numbered::Link, index as u16 + 1),
                 lan,
                 rates: Rates {
                     kbps,
@@ -142,7 +142,7 @@ impl Network {
         Ok(self.new_link(true, kbps, micros, ends))
     }
 
-    /// Judges the simulator's word, with the words behind it, on a line.
+    /// Judges the simulator's word, with the words after it, on a line.
     #[tactic(auto, unfolding(crate::specs::Commands::judged_simulator, crate::specs::Commands::judged_verb))]
     pub(crate) fn judge_simulator(
         &self,

@@ -19,7 +19,7 @@ impl Network {
         let node = need(Kind::Node, self.node_of(word_at(words, 1)))?;
         let os = name_in(word_at(words, 2))?;
         Ok(Task::ChangeNode {
-            place: node,
+            index: node,
             change: NodeChange::Os(os),
         })
     }
@@ -34,7 +34,7 @@ impl Network {
         let node = need(Kind::Node, self.node_of(word_at(words, 1)))?;
         let name = name_in(word_at(words, 2))?;
         Ok(Task::ChangeNode {
-            place: node,
+            index: node,
             change: NodeChange::Asks(self.asks_of(name)),
         })
     }
@@ -46,10 +46,10 @@ impl Network {
     {
         counted(3, words)?;
         let node = need(Kind::Node, self.node_of(word_at(words, 1)))?;
-        let place = name_in(word_at(words, 2))?;
+        let fixed = name_in(word_at(words, 2))?;
         Ok(Task::ChangeNode {
-            place: node,
-            change: NodeChange::Fixed(place),
+            index: node,
+            change: NodeChange::Fixed(fixed),
         })
     }
 
@@ -63,7 +63,7 @@ impl Network {
         let link = need(Kind::Node, self.only_link(node))?;
         let address = address_in(word_at(words, 2))?;
         Ok(Task::ChangeLink {
-            place: link,
+            index: link,
             change: LinkChange::Address { node, address },
         })
     }
@@ -79,7 +79,7 @@ impl Network {
         refuse(Kind::Node, !self.is_on_at(node, link))?;
         let address = address_in(word_at(words, 3))?;
         Ok(Task::ChangeLink {
-            place: link,
+            index: link,
             change: LinkChange::Address { node, address },
         })
     }
@@ -93,7 +93,7 @@ impl Network {
         let link = need(Kind::Link, self.link_of_kind(lan, word_at(words, 1)))?;
         let ppm = loss_in(word_at(words, 2))?;
         Ok(Task::ChangeLink {
-            place: link,
+            index: link,
             change: LinkChange::Loss(ppm),
         })
     }
@@ -107,7 +107,7 @@ impl Network {
         let link = need(Kind::Link, self.link_of(word_at(words, 1)))?;
         let multiplexed = flag_in(word_at(words, 2))?;
         Ok(Task::ChangeLink {
-            place: link,
+            index: link,
             change: LinkChange::Multiplexed(multiplexed),
         })
     }

@@ -4,7 +4,7 @@ use lab_base::Name;
 use ns_events::What;
 use virt_topo::{AskedLink, Asks, Class};
 
-/// The task that a command, or a variable's new value, asks for. Nodes go by their places in the order of creation; so do links and LANs.
+/// The task that a command, or a variable's new value, asks for. Nodes go by their indexes in the order of creation; so do links and LANs.
 #[derive(Drop)]
 pub(crate) enum Task {
     /// The command is none of the testbed's.
@@ -19,8 +19,8 @@ pub(crate) enum Task {
     AddLink { link: AskedLink },
     AddClass { class: Class },
     AddEvent { event: Planned },
-    ChangeNode { place: u16, change: NodeChange },
-    ChangeLink { place: usize, change: LinkChange },
+    ChangeNode { index: u16, change: NodeChange },
+    ChangeLink { index: usize, change: LinkChange },
 }
 
 /// A scheduled event of a link or LAN.
@@ -28,8 +28,8 @@ pub(crate) enum Task {
 pub(crate) struct Planned {
     /// The time in microseconds.
     pub at: u64,
-    /// The place of the link or LAN.
-    pub place: usize,
+    /// The index of the link or LAN.
+    pub index: usize,
     pub what: What,
     /// The line of the command at the top level that schedules it.
     pub line: u32,

@@ -5,7 +5,7 @@ ghost use Rattle.std.specs.List.{slice_split};
 ghost use Rattle.lab_base.specs.Texts.{views};
 ghost use Rattle.lab_base.specs.Numbers.{number_of};
 ghost use Rattle.lab_base.specs.Names.{same_name};
-ghost use Rattle.ns_build.specs.Words.{place_below, place_in, is_parting, elements_of};
+ghost use Rattle.ns_build.specs.Words.{index_below, index_in, is_parting, elements_of};
 
 use lab_base::{Memory, Text, read_number};
 use std::alloc::{AllocError, Global};
@@ -13,18 +13,18 @@ use std::alloc::{AllocError, Global};
 /// The simulator's word. Words of objects begin with a colon: so they are no names, and can be elements of lists.
 pub(crate) const SIMULATOR: &[u8] = b":ns";
 
-/// The mark of the words of nodes. The place of the node follows it.
+/// The mark of the words of nodes. The index of the node follows it.
 pub(crate) const NODE: &[u8] = b":n";
 
-/// The mark of the words of links and LANs. The place of the link or LAN follows it.
+/// The mark of the words of links and LANs. The index of the link or LAN follows it.
 pub(crate) const LINK: &[u8] = b":l";
 
-/// The word of the object at a place.
-pub(crate) fn word_of(alloc: Global, mark: &[u8], place: usize) -> Result<Text, Memory>
-    ensures { IfOk result (λ word. word ≡ mark.now ++ decimal place) }
+/// The word of the object at an index.
+pub(crate) fn word_of(alloc: Global, mark: &[u8], index: usize) -> Result<Text, Memory>
+    ensures { IfOk result (λ word. word ≡ mark.now ++ decimal index) }
 {
     let mut word = Text::from_slice(alloc, mark)?;
-    word.push_number(place as u64)?;
+    word.push_number(index as u64)?;
     Ok(word)
 }
 
@@ -36,16 +36,16 @@ fn is_printed(number: u16, digits: &[u8]) -> bool
     digits == buffer.format(number).as_bytes()
 }
 
-/// The place of these digits, if they are the printed form of a number below `count`.
-fn place_below(count: usize, digits: &[u8]) -> Option<u16>
-    ensures place { result ≡ place_below count digits.now (number_of (u16.MAX - 1) digits.now) }
-    ensures fits { IfSome result (λ place. place < u16.MAX) }
+/// The index of these digits, if they are the printed form of a number below `count`.
+fn index_below(count: usize, digits: &[u8]) -> Option<u16>
+    ensures index { result ≡ index_below count digits.now (number_of (u16.MAX - 1) digits.now) }
+    ensures fits { IfSome result (λ index. index < u16.MAX) }
 {
     match read_number(digits, 65_534) {
         Ok(number) => {
-            let place = number as u16;
-            if usize::from(place) < count && is_printed(place, digits) {
-                Some(place)
+            let index = number as u16;
+            if usize::from(index) < count && is_printed(index, digits) {
+                Some(index)
             } else {
                 None
             }
@@ -54,13 +54,13 @@ fn place_below(count: usize, digits: &[u8]) -> Option<u16>
     }
 }
 
-/// The place behind a mark in a word, if it is below `count`.
-pub(crate) fn place_in(mark: &[u8], count: usize, word: &[u8]) -> Option<u16>
-    ensures place { result ≡ place_in mark.now count word.now }
-    ensures fits { IfSome result (λ place. place < u16.MAX) }
+/// The index after a mark in a word, if it is below `count`.
+pub(crate) fn index_in(mark: &[u8], count: usize, word: &[u8]) -> Option<u16>
+    ensures index { result ≡ index_in mark.now count word.now }
+    ensures fits { IfSome result (λ index. index < u16.MAX) }
 {
     if word.starts_with(mark) {
-        place_below(count, &word[mark.len()..])
+        index_below(count, &word[mark.len()..])
     } else {
         None
     }

@@ -1,4 +1,4 @@
--- A sound wiring behind an event.
+-- A sound wiring after an event.
 use Rattle.std.proofs.Common.{◌≡◌, ℕ, false, length, refl, subst, arith}
 use Rattle.std.specs.Prelude.{not, ◌||◌, ◌==◌}
 use Rattle.virt_topo.specs.Soundness.{IsSound}

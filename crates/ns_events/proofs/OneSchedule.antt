@@ -13,7 +13,7 @@ same_number n = grind (arith, nat_tests)
 number_same : (a b : ℕ) → (a == b) ≡ true → a ≡ b
 number_same a b e = grind (arith, nat_tests)
 
--- each event is no later than those behind it
+-- each event is no later than those after it
 Rises : List Event → Type 0
 Rises [] = Unit {0}
 Rises (e ∷ es) = ((f : Event) → Has es f → e.at ≤ f.at) × Rises es
@@ -51,7 +51,7 @@ no_later x y xs ys up same = by (kept (λ e. e.at == y.at) (x ∷ xs) y (subst (
     by (inl is) = omega (arith, ap (λ (e : Event). e.at) is)
     by (inr h) = up.0 y h
 
--- behind two equal events
+-- after two equal events
 behind : (m : ℕ) (x y : Event) (xs ys : List Event) → x ≡ y → at_moment m (x ∷ xs) ≡ at_moment m (y ∷ ys) → at_moment m xs ≡ at_moment m ys
 behind m x y xs ys is same = by (x.at == m) (subst (λ (e : Event). at_moment m (x ∷ xs) ≡ at_moment m (e ∷ ys)) (sym is) same)
   where

@@ -1,4 +1,4 @@
--- The pipes behind an event: the ends stay, the others stay, and the link's own have the wanted rates.
+-- The pipes after an event: the ends stay, the others stay, and the link's own have the wanted rates.
 use Rattle.std.proofs.Common.{◌≡◌, ℕ, Bool, true, false, List, [], ◌∷◌, length, map, filter, refl, ap, arith}
 use Rattle.std.specs.Prelude.{not, if◌then◌else◌}
 use Rattle.lab_base.specs.declared.rates.Rates.{Rates}

@@ -26,7 +26,7 @@ wanted whats.Down text now = map (λ p. (lost p.there, lost p.back)) now
 wanted whats.Up text now = map rates_of text
 wanted (whats.Rates rates) text now = map (λ p. rates_of (shaped_pipe (length text) rates p.node)) now
 
--- the wiring behind an event
+-- the wiring after an event
 pub record IsApplied (e : Event) (text now new : Wiring) : Type 0 where
   pub rest : new ≡ record now { pipes = new.pipes }
   pub ends : map ends_of new.pipes ≡ map ends_of now.pipes

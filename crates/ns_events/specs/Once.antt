@@ -25,7 +25,7 @@ GivenAreShaped = (first : ℕ) (l : AskedLink) → limits_link l ≡ true → is
 abbrev pub ShapesStay : Type 0
 ShapesStay = (e : Event) (text now new : Wiring) → IsApplied e text now new → (link : List ℕ) → length (own_pipes new link) ≡ length (own_pipes now link)
 
--- a sound wiring is sound behind an event of a sound text, whose link has its shape
+-- a sound wiring is sound after an event of a sound text, whose link has its shape
 abbrev pub StaysSound : Type 0
 StaysSound = (e : Event) (text now new : Wiring) → IsSound text → IsSound now → KeepsLimits e.what → lacks_shape e.link text now ≡ false
     → IsApplied e text now new → IsSound new

@@ -1,4 +1,4 @@
--- The pipes behind an event, one after another.
+-- The pipes after an event, one after another.
 use Rattle.std.specs.Prelude.{ℕ, Bool, List, [], ◌∷◌, if◌then◌else◌}
 use Rattle.virt_topo.specs.declared.wiring.Pipe.{Pipe}
 use Rattle.ns_events.specs.declared.event.What.{What}

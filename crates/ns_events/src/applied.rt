@@ -1,4 +1,4 @@
-//! The wiring behind an event.
+//! The wiring after an event.
 
 ghost use Rattle.std.specs.Prelude.{◌≡◌, ◌≤◌, IfOk, length};
 ghost use Rattle.virt_topo.specs.Ends.{end_nodes};
@@ -15,7 +15,7 @@ use lab_base::{Items, Memory, Name};
 use std::alloc::Global;
 use virt_topo::{END_NUMBERS, Pipe, Wiring};
 
-/// The pipes behind an event. Those of its link are `text` in the text's wiring.
+/// The pipes after an event. Those of its link are `text` in the text's wiring.
 fn renewed_pipes(
     alloc: Global,
     event: &Event,

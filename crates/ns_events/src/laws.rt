@@ -21,7 +21,7 @@ pub fn shapes_stay()
     ensures { ShapesStay }
 {}
 
-/// A sound wiring is sound behind an event of a sound text, whose rates keep the limits, where the link has the shape that it has in the text.
+/// A sound wiring is sound after an event of a sound text, whose rates keep the limits, where the link has the shape that it has in the text.
 pub fn wirings_stay_sound()
     ensures { StaysSound }
 {}

@@ -47,7 +47,7 @@ fn with_rates(pipe: &Pipe, there: Rates, back: Rates) -> Pipe
     }
 }
 
-/// A pipe of a link or LAN behind an event. In the text's wiring it is `text`, one of `count`.
+/// A pipe of a link or LAN after an event. In the text's wiring it is `text`, one of `count`.
 pub(crate) fn renewed_pipe(what: What, count: usize, pipe: &Pipe, text: &Pipe) -> Pipe
     ensures { result ≡ renewed_pipe what count pipe.now text.now }
 {

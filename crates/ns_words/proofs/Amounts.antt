@@ -30,7 +30,7 @@ next_digit bs i digits lt =
     let is = digit_is (get_or bs i 0) range in
     record { low = omega arith; high = omega arith; next = omega arith }
 
--- the value behind other digits
+-- the value after other digits
 after_append : (n : ℕ) (xs ys : List ℕ) → digits_value_after 10 n (xs ++ ys) ≡ digits_value_after 10 (digits_value_after 10 n xs) ys
 after_append n [] ys = refl
 after_append n (x ∷ xs) ys = after_append (n * 10 + digit_value x) xs ys

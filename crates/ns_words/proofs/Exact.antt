@@ -54,7 +54,7 @@ few k h = grind (arith, nat_tests)
 many : (k : ℕ) → 6 < k → nat_le k 6 ≡ false
 many k h = grind (arith, nat_tests)
 
--- a word with so many digits behind the point has no time, and any other has that of its quantity
+-- a word with so many digits after the point has no time, and any other has that of its quantity
 pub no_time : (word fraction : List ℕ) → fraction ≡ (numeral_of word).fraction → 6 < length fraction → time_of word ≡ None
 unfolding time_of
 no_time word fraction is over = let no : is_to_six word ≡ false = many _ (subst (λ (f : List ℕ). 6 < length f) is over) in rw no refl

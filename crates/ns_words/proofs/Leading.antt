@@ -1,4 +1,4 @@
--- The digits that lead, and what stands behind them.
+-- The digits that lead, and what stands after them.
 use Rattle.std.proofs.Common.{◌≡◌, ℕ, suc, ◌+◌, ◌≤◌, Bool, true, false, not, ltb, List, [], ◌∷◌, ◌++◌, length, refl, arith, take-append-drop}
 use Rattle.std.specs.Prelude.{unwrap_or}
 use Rattle.std.specs.Char.{is_ascii_digit}
@@ -19,7 +19,7 @@ place_or_length p xs = by (ltb (position_or_len p xs) (length xs)) refl
     by true is = rw is refl
     by false is = rw is (omega (arith, ltb-false _ _ is, within_length p xs))
 
--- a word is the digits that lead and what stands behind them
+-- a word is the digits that lead and what stands after them
 pub parts_join : (bytes : List ℕ) → leading bytes ++ behind bytes ≡ bytes
 parts_join bytes = take-append-drop (position_or_len is_no_digit bytes) bytes
 

@@ -39,7 +39,7 @@ by_letter c = by (eqb c 107) (eqb c 75) (eqb c 109) (eqb c 77) (eqb c 103) (eqb 
     by false false false false false true h1 h2 h3 h4 h5 is = at 71 is (known 71 1000000000 refl (λ ending. endings ending 1000000000))
     by false false false false false false h1 h2 h3 h4 h5 h6 = λ ending scale h. absurd (let none : None ≡ Some scale = rw (h1, h2, h3, h4, h5, h6) at h in cc)
 
--- the first byte of a unit and those behind it
+-- the first byte of a unit and those after it
 pub by_first : (unit ending : List ℕ) (found r : Option ℕ) (scale : ℕ) → 1 ≤ length unit → found ≡ letter_scale (get_or unit 0 0) → found ≡ Some scale → ending ≡ drop 1 unit
     → r ≡ ended ending scale → r ≡ scale_of rate_units unit
 by_first [] ending found r scale some letter is rest value = absurd (omega arith)

@@ -230,7 +230,7 @@ quantity_again units part least most word v are some within =
     not_empty : (k : ℕ) → 1 ≤ k → eqb k 0 ≡ false
     not_empty k h = grind (arith, nat_tests)
 
--- the digits behind the point are those of the numeral
+-- the digits after the point are those of the numeral
 pub fraction_is : (units : Units) (part : ℕ) (word : List ℕ) (v : ℕ) → AreUnits units → (q : IsQuantity units part word v) → (numeral_of word).fraction ≡ q.fraction
 fraction_is units part word v are q =
     ap (λ (w : List ℕ). (numeral_of w).fraction) q.joined

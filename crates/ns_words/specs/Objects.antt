@@ -36,7 +36,7 @@ plain_of v = if is_word v then if_short v else None
 abbrev pub indexed_of : List ℕ → List ℕ → Option (List ℕ)
 indexed_of v i = if is_word v && is_index i then if_short (v ++ 45 ∷ i) else None
 
--- what stands behind the opening parenthesis has to end at the first closing one
+-- what stands after the opening parenthesis has to end at the first closing one
 abbrev pub closed_of : List ℕ → Option (List ℕ × List ℕ) → Option (List ℕ)
 closed_of v None = None
 closed_of v (Some parts) = if length parts.1 == 0 then indexed_of v parts.0 else None

@@ -9,7 +9,7 @@ use Rattle.lab_base.specs.Lists.{Has}
 abbrev pub Units : Type 0
 Units = List (List ℕ × ℕ)
 
--- a point and the digits behind it, or nothing
+-- a point and the digits after it, or nothing
 abbrev pub pointed : List ℕ → List ℕ
 pointed [] = []
 pointed (digit ∷ digits) = 46 ∷ digit ∷ digits
@@ -74,7 +74,7 @@ pub record IsLoss (word : List ℕ) (ppm : ℕ) : Type 0 where
   pub quantity : IsQuantity loss_units 1 word ppm
   pub most : ppm ≤ 1000000
 
--- seconds with at most six digits behind the point, up to 10^12 microseconds
+-- seconds with at most six digits after the point, up to 10^12 microseconds
 pub record IsTime (word : List ℕ) (micros : ℕ) : Type 0 where
   pub quantity : IsQuantity second_units 1 word micros
   pub places : length quantity.fraction ≤ 6

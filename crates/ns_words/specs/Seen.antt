@@ -11,7 +11,7 @@ use Rattle.ns_words.specs.Values.{Numeral}
 abbrev pub numeral_seen : Parts → Numeral
 numeral_seen n = record { whole = n.whole.now; fraction = n.fraction.now; unit = n.unit.now }
 
--- digits, and at most nine behind the point
+-- digits, and at most nine after the point
 pub record IsNumeral (n : Numeral) : Type 0 where
   pub whole : list_all is_ascii_digit n.whole ≡ true
   pub fraction : list_all is_ascii_digit n.fraction ≡ true

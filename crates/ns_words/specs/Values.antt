@@ -12,7 +12,7 @@ abbrev pub scale_of : Units → List ℕ → Option ℕ
 scale_of [] unit = None
 scale_of (u ∷ units) unit = if same_name unit u.0 then Some u.1 else scale_of units unit
 
--- the parts of a word: the digits before and behind the point, and what is left
+-- the parts of a word: the digits before and after the point, and what is left
 pub record Numeral : Type 0 where
   pub whole : List ℕ
   pub fraction : List ℕ
@@ -21,14 +21,14 @@ pub record Numeral : Type 0 where
 abbrev pub is_no_digit : ℕ → Bool
 is_no_digit byte = not (is_ascii_digit byte)
 
--- the digits that lead, and what stands behind them
+-- the digits that lead, and what stands after them
 abbrev pub leading : List ℕ → List ℕ
 leading bytes = before_first is_no_digit bytes
 
 abbrev pub behind : List ℕ → List ℕ
 behind bytes = drop (position_or_len is_no_digit bytes) bytes
 
--- a point belongs to the number if 1 to 9 digits stand behind it
+-- a point belongs to the number if 1 to 9 digits stand after it
 abbrev pub is_pointed : List ℕ → Bool
 is_pointed [] = false
 is_pointed (byte ∷ bytes) = byte == 46 && is_between 1 9 (position_or_len is_no_digit bytes)
@@ -69,7 +69,7 @@ delay_of word = quantity_of time_units 1 0 10000000 word
 unfoldable pub loss_of : List ℕ → Option ℕ
 loss_of word = quantity_of loss_units 1 0 1000000 word
 
--- at most six digits behind the point
+-- at most six digits after the point
 abbrev pub is_to_six : List ℕ → Bool
 is_to_six word = nat_le (length (numeral_of word).fraction) 6
 

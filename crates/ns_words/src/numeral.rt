@@ -13,13 +13,13 @@ use crate::units::MAX_SCALE;
 /// The whole part from which on a number is too large in every unit.
 const LARGE: u64 = 10_000_000_000_000;
 
-/// The most digits behind a point.
+/// The most digits after a point.
 const MAX_PLACES: usize = 9;
 
 /// The most smallest parts of which a quantity is counted as one.
 const MAX_PART: u64 = 1_000;
 
-/// A numeral at the front of a word: its digits before and behind the point, and the bytes left.
+/// A numeral at the front of a word: its digits before and after the point, and the bytes left.
 #[derive(Clone, Copy)]
 pub(crate) struct Numeral<'a> {
     pub whole: &'a [u8],
@@ -42,7 +42,7 @@ fn digits_len(bytes: &[u8]) -> usize
     first_other(bytes).unwrap_or(bytes.len())
 }
 
-/// The numeral of these digits and the bytes behind them.
+/// The numeral of these digits and the bytes after them.
 fn numeral_from<'a>(whole: &'a [u8], rest: &'a [u8]) -> Numeral<'a>
     ensures { numeral_seen result ≡ numeral_from whole.now rest.now }
 {

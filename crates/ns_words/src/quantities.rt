@@ -12,7 +12,7 @@ use virt_topo::{MAX_KBPS, MAX_MICROS, MAX_PPM};
 /// The latest time, in microseconds.
 pub const MAX_TIME: u64 = 1_000_000_000_000;
 
-/// The most digits behind the point of a time.
+/// The most digits after the point of a time.
 const MAX_PLACES: usize = 6;
 
 fn narrow(value: Option<u64>) -> Option<u32>
@@ -55,7 +55,7 @@ pub fn loss(word: &[u8]) -> Option<u32>
     narrow(numeral.measured(loss_scale(numeral.unit), 1, 0, 1_000_000))
 }
 
-/// Reads a time in microseconds, at most 1,000,000,000,000. None where the word is malformed, has more than six digits behind the point, or is no
+/// Reads a time in microseconds, at most 1,000,000,000,000. None where the word is malformed, has more than six digits after the point, or is no
 /// number in this range.
 pub fn time(word: &[u8]) -> Option<u64>
     ensures value { result ≡ time_of word.now }

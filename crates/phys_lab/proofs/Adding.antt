@@ -25,7 +25,7 @@ use Rattle.phys_lab.proofs.KeptLaws.{insert, at_end, none_has, same_iface-self, 
 pub each_push : {X : Type 0} (P : X → Type 0) (xs : List X) (x : X) → ((y : X) → Has xs y → P y) → P x → (y : X) → Has (xs ++ x ∷ []) y → P y
 each_push P xs x all one y h = elim (Has-append xs (x ∷ []) y h) [ inl a ↦ all y a | inr b ↦ elim b [ inl e ↦ subst P e one | inr d ↦ absurd d ] ]
 
--- behind the second of two lists
+-- after the second of two lists
 pub at_second : {X : Type 0} (xs ys : List X) (x : X) → AllDiffer (xs ++ ys) → (Has xs x → ⊥) → (Has ys x → ⊥) → AllDiffer (xs ++ (ys ++ x ∷ []))
 at_second xs ys x differ one two =
     subst (λ l. AllDiffer l) (append_assoc xs ys (x ∷ []))

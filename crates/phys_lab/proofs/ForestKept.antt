@@ -72,7 +72,7 @@ forest_push trunks t forest apart n lt = elim (cases_lt n (length trunks)) [
         (λ x y. never (joined_through trunks _ u.first.0.0 _ (joined_back trunks _ _ (all _ _ x)) (joined_through trunks _ u.second.0.0 _ joins (joined_back trunks _ _ (all _ _ y)))))
         (λ x y. never (joined_through trunks _ u.second.0.0 _ (all _ _ y) (joined_through trunks _ u.first.0.0 _ (joined_back trunks _ _ joins) (all _ _ x))))
 
--- a trunk behind the front of a forest joins switches that the front keeps apart
+-- a trunk after the front of a forest joins switches that the front keeps apart
 pub next_apart : (front rest : List Trunk) (t : Trunk) → IsForest (front ++ t ∷ rest) → joined front t.first.0.0 t.second.0.0 ≡ false
 next_apart front rest t forest = by (joined front t.first.0.0 t.second.0.0) refl
   where

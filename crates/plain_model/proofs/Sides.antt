@@ -8,7 +8,7 @@ use Rattle.journal_rec.specs.declared.record.Record.TheVariants.{Delete}
 use Rattle.journal_rec.specs.Payloads.{IsRecord, le}
 use Rattle.journal_model.specs.Journals.{head, live, New, On, Wrong, Records, Bad, cut_off}
 
--- a header of that epoch with that name, and the record Delete of A with that gate behind it
+-- a header of that epoch with that name, and the record Delete of A with that gate after it
 abbrev named : List ℕ → ℕ → List ℕ → List ℕ
 named name epoch rest = 165 ∷ name ++ le 8 epoch ++ rest
 
@@ -27,7 +27,7 @@ record_a = Delete (codes "A")
 is_record : IsRecord record_a
 is_record = record { fields = refl; size = ltb-true _ _ refl }
 
--- blank sides, and headers whose gate was not yet written behind them
+-- blank sides, and headers whose gate was not yet written after them
 no_bytes : live (head []) (head []) ≡ New
 no_bytes = refl
 
@@ -68,7 +68,7 @@ first_foreign = refl
 second_foreign : live (head (side 2 (delete 0))) (head (named (codes "LABJRNLX") 1 (delete 0))) ≡ Wrong B
 second_foreign = refl
 
--- a record with a closed gate behind it, none before one, and one that ends at a gate that is neither
+-- a record with a closed gate after it, none before one, and one that ends at a gate that is neither
 one_record : Records (side 1 (delete 0)) [] (record_a ∷ [])
 one_record = (0 ∷ [], is_record, refl, (0, [], refl, λ e. cc e))
 
@@ -78,7 +78,7 @@ no_record_yet = (0, [], refl, λ e. cc e)
 other_gate : Records [] (side 1 (delete 1)) (record_a ∷ [])
 other_gate = (1 ∷ [], is_record, refl, (1, [], refl, λ e. cc e))
 
--- an open gate without a record behind it, behind one record and behind none
+-- an open gate without a record after it, after one record and after none
 open_behind : Bad (side 1 (delete 165 ++ 1 ∷ 0 ∷ 0 ∷ 0 ∷ [])) [] A 25
 open_behind = (refl, (record_a ∷ [], (165 ∷ 1 ∷ 0 ∷ 0 ∷ 0 ∷ [], is_record, refl, (1 ∷ 0 ∷ 0 ∷ 0 ∷ [], refl, cut_off (leb-true _ _ refl) (ltb-true _ _ refl))), refl))
 

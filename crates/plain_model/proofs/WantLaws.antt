@@ -21,11 +21,11 @@ pub on_ok : {X E P Q : Type 0} (r : Result X E) → OnOk r P → (P → Q) → O
 on_ok (Ok x) p f = f p
 on_ok (Err e) p f = tt
 
--- the ends of a segment, and those of the segments behind it
+-- the ends of a segment, and those of the segments after it
 pub ends_of : (s : Segment) (segments : List Segment) → length (end_nodes (s ∷ segments)) ≡ length s.ends + length (end_nodes segments)
 ends_of s segments = ends_from (s ∷ segments) 0 s (omega arith) refl
 
--- a segment's rows, and those of the segments behind it
+-- a segment's rows, and those of the segments after it
 pub cables_pushed : (lab : Lab) (s : Segment) (segments : List Segment) (plugs front back : List IfaceId) (tag : VlanId) (tags : List VlanId) (old mid new : List Owned)
     → front ≡ take (length s.ends) plugs → back ≡ drop (length s.ends) plugs
     → mid ≡ old ++ map (of_link s.owner) (cable_rows lab tag.0 (cable s front))

@@ -74,7 +74,7 @@ module _ {X : Type 0} (before : X → X → Type 0) (order : IsOrder before) whe
     pushed xs e rising.1 (λ y h. below y (inr h)),
   )
 
-  -- A READING MORE: a front with the nth behind it, where it has n, is a front
+  -- A READING MORE: a front with the nth after it, where it has n, is a front
   pub one_more : (so : X → Type 0) (xs : List X) (e : X) → IsFront before so xs → IsNth before so (length xs) (Some e) → IsFront before so (xs ++ e ∷ [])
   one_more so xs e f n =
       let earlier = n.1.0 in

@@ -128,7 +128,7 @@ keeps_sent : (h now : Held) (op : DeviceOp) (answer : Answer) (text : List ℕ) 
 keeps_sent h now op answer text result made (false, put) keeps = keeps_by h now op answer text result made put keeps
 keeps_sent h now op answer text result made (true, put) keeps = keeps_by (record h { older = [] }) now op answer text result (made_durable op answer text h made) put (keeps_now h keeps)
 
--- THE FOLDER BEHIND A COMMAND THAT WAS SENT
+-- THE FOLDER AFTER A COMMAND THAT WAS SENT
 pub fits_sent : (op : DeviceOp) (answer : Answer) (text : List ℕ) (stopped : Bool) (result : Result (Unit {0}) Fault) (old new : Option Held) → IsFalse stopped → ForSome old (IsMade op answer text)
     → IsSent op answer text stopped result old new → ForSome old Keeps → ForSome new Keeps
 fits_sent op answer text true result old new runs made sent keeps = absurd (cc runs)

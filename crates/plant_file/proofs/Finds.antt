@@ -55,7 +55,7 @@ find_within p q within (x ∷ xs) = by (p x) refl (q x) refl (find_within p q wi
     by false is false out rest = ap (λ (c : Bool). find p (cond (not c) (x ∷ without q xs) (without q xs))) out ∙ ap (λ (c : Bool). cond c (Some x) (find p (without q xs))) is ∙ rest
     by true is false out rest = absurd (let never : true ≡ false = sym (within x is) ∙ out in cc never)
 
--- an entry behind them that is missed, or found
+-- an entry after them that is missed, or found
 pub find_missed : (p : Test) (entries : List Entry) (entry : Entry) → p entry ≡ false → find p (entries ++ entry ∷ []) ≡ find p entries
 find_missed p [] entry differs = ap (λ (c : Bool). cond c (Some entry) None) differs
 find_missed p (x ∷ xs) entry differs = ap (λ (o : Option Entry). cond (p x) (Some x) o) (find_missed p xs entry differs)

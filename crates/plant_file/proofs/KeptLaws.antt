@@ -1,4 +1,4 @@
--- Lines beside the text that they make up: one is taken out, or one more is put behind them.
+-- Lines beside the text that they make up: one is taken out, or one more is put after them.
 use Rattle.std.proofs.Common.{◌≡◌, ◌≤◌, ◌<◌, ◌+◌, ◌-◌, ◌⊎◌, ℕ, Bool, true, false, not, cond, ◌&&◌, ◌||◌, List, [], ◌∷◌, ◌++◌, length, take, drop, map, get_or, refl, sym, ap, subst, ◌∙◌, arith, append_assoc, length-append, length-take-le, drop_at, Some, None, inl, inr}
 use Rattle.std.specs.Prelude.{remove, filter}
 use Rattle.std.specs.List.{list_all, list_any, find}
@@ -65,12 +65,12 @@ none_found p (y ∷ ys) none =
     let parts = none_first p y ys none in
     ap (λ (b : Bool). cond b (Some y) (find p ys)) parts.0 ∙ none_found p ys parts.1
 
--- behind those of which none passes the first one that does is found
-pub found_behind : (p : Entry → Bool) (xs ys : List Entry) (x : Entry) → list_any p xs ≡ false → p x ≡ true → find p (xs ++ x ∷ ys) ≡ Some x
-found_behind p [] ys x none is = ap (λ (b : Bool). cond b (Some x) (find p ys)) is
-found_behind p (y ∷ zs) ys x none is =
+-- after those of which none passes the first one that does is found
+pub found_after : (p : Entry → Bool) (xs ys : List Entry) (x : Entry) → list_any p xs ≡ false → p x ≡ true → find p (xs ++ x ∷ ys) ≡ Some x
+found_after p [] ys x none is = ap (λ (b : Bool). cond b (Some x) (find p ys)) is
+found_after p (y ∷ zs) ys x none is =
     let parts = none_first p y zs none in
-    ap (λ (b : Bool). cond b (Some y) (find p (zs ++ x ∷ ys))) parts.0 ∙ found_behind p zs ys x parts.1 is
+    ap (λ (b : Bool). cond b (Some y) (find p (zs ++ x ∷ ys))) parts.0 ∙ found_after p zs ys x parts.1 is
 
 -- what is cut out of the midst
 pub cut_out : (front here behind : List ℕ) (at size : ℕ) → at ≡ length front → size ≡ length here
@@ -95,13 +95,13 @@ kept_without front behind here text at kept is_at =
     let own : text ≡ text_of_lines front ++ (own_text here ++ text_of_lines behind) = kept.is ∙ text_joined front (here ∷ behind) in
     let size : here.size ≡ length (own_text here) = (kept.each here (Has-right front (here ∷ behind) here (inl refl))).size in
     let front_all : Bool = list_all is_printable (entries_of front) in
-    let behind_all : Bool = list_all is_printable (entries_of behind) in
-    let parts = and_parts front_all (is_printable here.entry.value && behind_all) (sym (ap (list_all is_printable) (entries_joined front (here ∷ behind)) ∙ list_all-append is_printable (entries_of front) (entries_of (here ∷ behind))) ∙ kept.printable) in
-    let later = and_parts (is_printable here.entry.value) behind_all parts.1 in
+    let after_all : Bool = list_all is_printable (entries_of behind) in
+    let parts = and_parts front_all (is_printable here.entry.value && after_all) (sym (ap (list_all is_printable) (entries_joined front (here ∷ behind)) ∙ list_all-append is_printable (entries_of front) (entries_of (here ∷ behind))) ∙ kept.printable) in
+    let later = and_parts (is_printable here.entry.value) after_all parts.1 in
     record {
       is = ap (λ (t : List ℕ). take at t ++ drop (at + here.size) t) own ∙ cut_out (text_of_lines front) (own_text here) (text_of_lines behind) at here.size is_at size ∙ sym (text_joined front behind);
       each = λ line has. by line (Has-append front behind line has);
-      printable = ap (list_all is_printable) (entries_joined front behind) ∙ list_all-append is_printable (entries_of front) (entries_of behind) ∙ and_from front_all behind_all parts.0 later.1;
+      printable = ap (list_all is_printable) (entries_joined front behind) ∙ list_all-append is_printable (entries_of front) (entries_of behind) ∙ and_from front_all after_all parts.0 later.1;
     }
   where
     by : (line : Line) → Has front line ⊎ Has behind line → IsLine line
@@ -158,9 +158,9 @@ pub found_at : (key : Key) (lines : List Line) (spot : Spot) (at : IsAt key line
 found_at key lines spot at here is =
     let one : here ≡ at.here = stands_at lines at.front at.behind at.here here spot.line at.is at.line is in
     let parts : entries_of lines ≡ entries_of at.front ++ at.here.entry.value ∷ entries_of at.behind = ap entries_of at.is ∙ entries_joined at.front (at.here ∷ at.behind) in
-    ap (λ (l : Line). Some l.entry.value) one ∙ sym (ap (find (is_keyed key)) parts ∙ found_behind (is_keyed key) (entries_of at.front) (entries_of at.behind) at.here.entry.value at.first at.keyed)
+    ap (λ (l : Line). Some l.entry.value) one ∙ sym (ap (find (is_keyed key)) parts ∙ found_after (is_keyed key) (entries_of at.front) (entries_of at.behind) at.here.entry.value at.first at.keyed)
 
--- one line more, behind the others
+-- one line more, after the others
 pub kept_with : (lines : List Line) (here : Line) (text : List ℕ) → AreKept lines text → IsLine here → is_printable here.entry.value ≡ true → AreKept (lines ++ here ∷ []) (text ++ own_text here)
 kept_with lines here text kept own printable = record {
   is = ap (λ (t : List ℕ). t ++ own_text here) kept.is ∙ ap (λ (t : List ℕ). text_of_lines lines ++ t) (sym (append-nil (own_text here))) ∙ sym (text_joined lines (here ∷ []));
@@ -191,13 +191,13 @@ none_more key lines i here lt is differs so_far =
     let parts : entries_of (take (i + 1) lines) ≡ entries_of (take i lines) ++ here.entry.value ∷ [] = ap entries_of next ∙ entries_joined (take i lines) (here ∷ []) in
     ap (list_any (is_keyed key)) parts ∙ none_behind (is_keyed key) (entries_of (take i lines)) here.entry.value so_far differs
 
--- the line at a place, between those before it and those behind it
+-- the line at a place, between those before it and those after it
 pub line_at : (lines : List Line) (i : ℕ) (here : Line) → i < length lines → here ≡ get_or lines i here → lines ≡ take i lines ++ here ∷ drop (i + 1) lines
 line_at lines i here lt is =
     let next : take (i + 1) lines ≡ take i lines ++ here ∷ [] = take_more lines i here lt ∙ ap (λ (y : Line). take i lines ++ y ∷ []) (sym is) in
     sym (take-append-drop (i + 1) lines) ∙ ap (λ (l : List Line). l ++ drop (i + 1) lines) next ∙ append_assoc (take i lines) (here ∷ []) (drop (i + 1) lines)
 
--- the text from a line on is its own and that of those behind it
+-- the text from a line on is its own and that of those after it
 pub rest_next : (lines : List Line) (i : ℕ) (here : Line) → i < length lines → here ≡ get_or lines i here → text_of_lines (drop i lines) ≡ own_text here ++ text_of_lines (drop (i + 1) lines)
 rest_next lines i here lt is =
     let front : length (take i lines) ≡ i = length-take-le i lines (omega (arith, lt)) in
@@ -205,9 +205,9 @@ rest_next lines i here lt is =
     ap text_of_lines next
 
 -- its own text is cut off in front
-pub rest_behind : (lines : List Line) (i : ℕ) (here : Line) (rest : List ℕ) → i < length lines → here ≡ get_or lines i here → IsLine here → rest ≡ text_of_lines (drop i lines)
+pub rest_after : (lines : List Line) (i : ℕ) (here : Line) (rest : List ℕ) → i < length lines → here ≡ get_or lines i here → IsLine here → rest ≡ text_of_lines (drop i lines)
     → (here.size ≤ length rest) × (drop here.size rest ≡ text_of_lines (drop (i + 1) lines)) × (length rest ≡ here.size + length (drop here.size rest))
-rest_behind lines i here rest lt is own so_far =
+rest_after lines i here rest lt is own so_far =
     let later : List ℕ = text_of_lines (drop (i + 1) lines) in
     let whole : rest ≡ own_text here ++ later = so_far ∙ rest_next lines i here lt is in
     let long : length rest ≡ length (own_text here) + length later = ap length whole ∙ length-append (own_text here) later in

@@ -16,7 +16,7 @@ steps_none (Some h) = ap (λ (l : List Event). let o : Option Held = Some (recor
 pub told_still : {T : Type 0} (device : List ℕ) (value : T) (old new : Option Held) → new ≡ old → new ≡ with_steps old (unread device (Ok value))
 told_still device value old new is = is ∙ steps_none old
 
--- behind it comes what its answer adds
+-- after it comes what its answer adds
 pub told_after : {S T : Type 0} (device : List ℕ) (value : S) (result : Result T ReadFailed) (old mid new : Option Held) → mid ≡ with_steps old (unread device (Ok value)) → new ≡ with_steps mid (unread device result) → new ≡ with_steps old (unread device result)
 told_after device value result old mid new first is = is ∙ ap (λ (h : Option Held). with_steps h (unread device result)) (first ∙ sym (steps_none old))
 

@@ -160,7 +160,7 @@ world_more trace steps still = fold-append world_after blank trace steps ∙ sti
 fits_more : (h : Held) (steps : List Event) → AreStill steps → Fits h → Fits (more h steps)
 fits_more h steps still fits = subst (λ (w : World). Stands w h.text) (sym (world_more h.past.trace steps still)) fits
 
--- steps beside the journal, behind such steps
+-- steps beside the journal, after such steps
 beside_append : (xs ys : List Event) → AreBeside xs → AreBeside ys → AreBeside (xs ++ ys)
 beside_append [] ys first rest = rest
 beside_append (x ∷ xs) ys first rest = let p = and_parts (is_beside x) (list_all is_beside xs) first in and_from _ _ p.0 (beside_append xs ys p.1 rest)

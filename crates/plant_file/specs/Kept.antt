@@ -26,7 +26,7 @@ pub record AreKept (lines : List Line) (text : List ℕ) : Type 0 where
   pub each : (line : Line) → Has lines line → IsLine line
   pub printable : list_all is_printable (entries_of lines) ≡ true
 
--- the lines before it, none of which has that key, the line of that key, and those behind it
+-- the lines before it, none of which has that key, the line of that key, and those after it
 pub record IsAt (key : Key) (lines : List Line) (spot : Spot) : Type 0 where
   pub front : List Line
   pub here : Line

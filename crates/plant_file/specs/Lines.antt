@@ -26,7 +26,7 @@ boot_word Booting = codes "BOOTING"
 boot_word TbSetup = codes "TBSETUP"
 boot_word IsUp = codes "ISUP"
 
--- `row SWITCH PORT VLAN`, `node NODE STATE` with the OS behind it, `pipe NODE NUMBER FROM TO` with six rates
+-- `row SWITCH PORT VLAN`, `node NODE STATE` with the OS after it, `pipe NODE NUMBER FROM TO` with six rates
 abbrev pub entry_fields : Entry → List (List ℕ)
 entry_fields (Row switch port vlan) = codes "row" ∷ switch ∷ decimal port ∷ decimal vlan.0 ∷ []
 entry_fields (Bare node state) = codes "node" ∷ node ∷ boot_word state ∷ []
@@ -99,7 +99,7 @@ abbrev pub entry_of : List (List ℕ) → Result Entry Kind
 entry_of [] = Err kinds.Word
 entry_of (keyword ∷ fields) = keyed keyword fields
 
--- a line behind those so far
+-- a line after those so far
 abbrev pub added : List Entry → List (List ℕ) → Result (List Entry) Kind
 added entries fields = and_then (entry_of fields) (λ entry. Ok (entries ++ entry ∷ []))
 

@@ -5,7 +5,7 @@ use Rattle.plant_file.specs.declared.entry.Entry.TheVariants.{Row, Bare, Node, P
 use Rattle.plant_file.specs.declared.entry.Key.{Key}
 use Rattle.plant_file.specs.declared.entry.Key.TheVariants as keys
 
--- a number of the bytes behind others that have one
+-- a number of the bytes after others that have one
 abbrev pub mark_on : ℕ → List ℕ → ℕ
 mark_on mark [] = mark
 mark_on mark (byte ∷ bytes) = mark_on ((mark * 31 + byte) % 4294967291) bytes

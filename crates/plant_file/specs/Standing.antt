@@ -45,7 +45,7 @@ is_beside (Cut side size) = false
 is_beside event = true
 
 -- AN OLDER TEXT stood for the world at its moment, and each image that is possible now was possible then: so a loss of power that leaves it
--- leaves what a stop at that moment would have left. No step of the journal comes behind it
+-- leaves what a stop at that moment would have left. No step of the journal comes after it
 pub record IsOld (h : Held) (old : Old) : Type 0 where
   pub within : old.at ≤ length h.past.trace
   pub stands : Stands (world_of (take old.at h.past.trace)) old.text

@@ -8,7 +8,7 @@ use Rattle.folder.specs.Lost.{Lost}
 use Rattle.plant_file.specs.Standing.{Keeps, is_beside}
 
 -- WHAT A STOP AT THE MOMENT OF THE TEXT LEAVES: the images were possible then, the devices hold what they held then, and no step of the journal has
--- come behind it
+-- come after it
 pub record IsStop (h : Held) (old : Old) (a b : List ℕ) (now : Held) : Type 0 where
   pub possible : ArePossible (take old.at h.past.trace) a b
   pub world : world_of now.past.trace ≡ world_of (take old.at h.past.trace)

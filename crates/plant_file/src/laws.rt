@@ -14,7 +14,7 @@ pub fn tables_hold_a_world()
     ensures { HoldWorlds }
 {}
 
-/// A blank folder keeps what a plant in a folder keeps, and so does one behind a kill or a loss of power: that is as a stop at the moment of the text
+/// A blank folder keeps what a plant in a folder keeps, and so does one after a kill or a loss of power: that is as a stop at the moment of the text
 /// that is left.
 pub fn folders_keep()
     ensures blank { Keeps blank }

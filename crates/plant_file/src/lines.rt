@@ -46,7 +46,7 @@ fn as_row(read: Result<(Name, (u16, u16)), Kind>) -> Result<Entry, Kind>
     }
 }
 
-/// Reads the fields behind the word `row`.
+/// Reads the fields after the word `row`.
 fn row_in(fields: &[&[u8]]) -> Result<Entry, Kind>
     ensures { result ≡ row_line (views fields.now) }
 {
@@ -99,7 +99,7 @@ fn loaded_in(fields: &[&[u8]]) -> Result<Entry, Kind>
     as_node(whole)
 }
 
-/// Reads the fields behind the word `node`.
+/// Reads the fields after the word `node`.
 fn node_in(fields: &[&[u8]]) -> Result<Entry, Kind>
     ensures { result ≡ node_line (views fields.now) }
 {
@@ -147,7 +147,7 @@ fn pipe_key_at(fields: &[&[u8]]) -> Result<(Name, u16), Kind>
     both(node, number)
 }
 
-/// Reads the fields behind the word `pipe`.
+/// Reads the fields after the word `pipe`.
 fn pipe_in(fields: &[&[u8]]) -> Result<Entry, Kind>
     ensures { result ≡ pipe_line (views fields.now) }
 {

@@ -1,4 +1,4 @@
--- The state behind a command, as the trait has it.
+-- The state after a command, as the trait has it.
 use Rattle.std.proofs.Common.{◌≡◌, inl, inr, ℕ, Bool, true, false, List, [], ◌∷◌, Option, Some, None, Result, Err, refl, sym, ap, ◌∙◌, subst, if◌then◌else◌}
 use Rattle.std.specs.Prelude.{is_some}
 use Rattle.std.proofs.lemmas.List.{append-nil}
@@ -17,17 +17,17 @@ use Rattle.plant_mem.specs.Boots.{answer_of, moved_by}
 use Rattle.plant_mem.specs.Commands.{answer_sent, sent, failed_if, met_command, met_answer, after_command, answer_command}
 use Rattle.plant_mem.specs.DiskPlans.{stops_next, stop_counted, is_done}
 use Rattle.plant_mem.specs.Held.{Held, effect_if, halted}
-use Rattle.plant_mem.specs.Plans.{firing, motion_of, is_applied, answer_by}
-use Rattle.plant_mem.specs.declared.motion.Motion.{Motion}
+use Rattle.plant_mem.specs.Plans.{firing, boot_step_of, is_applied, answer_by}
+use Rattle.plant_mem.specs.declared.boot_step.BootStep.{BootStep}
 
-answer_fits : (op : DeviceOp) (motion : Motion) (state : List ℕ → Boot) → Fits op (answer_of op motion state)
-answer_fits (Join switch port vlan) motion state = refl
-answer_fits (Leave switch port vlan) motion state = refl
-answer_fits (Shape node pipe from to there back) motion state = refl
-answer_fits (Load node os) motion state = refl
-answer_fits (BootIt node) motion state = refl
-answer_fits (Poll node) motion state = (moved_by motion (state node), refl)
-answer_fits (Wipe node) motion state = refl
+answer_fits : (op : DeviceOp) (boot_step : BootStep) (state : List ℕ → Boot) → Fits op (answer_of op boot_step state)
+answer_fits (Join switch port vlan) boot_step state = refl
+answer_fits (Leave switch port vlan) boot_step state = refl
+answer_fits (Shape node pipe from to there back) boot_step state = refl
+answer_fits (Load node os) boot_step state = refl
+answer_fits (BootIt node) boot_step state = refl
+answer_fits (Poll node) boot_step state = (moved_by boot_step (state node), refl)
+answer_fits (Wipe node) boot_step state = refl
 
 abbrev Tells : DeviceOp → Bool → Held → Result Answer Fault → Held → Type 0
 Tells op stopped h result k = (steps : List Event) × (Some k.told ≡ with_steps (Some h.told) steps) × CommandSteps op stopped result steps
@@ -58,7 +58,7 @@ met_tells : (stop : Option Pick) (op : DeviceOp) (h : Held) → Tells op false h
 met_tells None op h = (
   Did op (is_applied (firing op h.plans)) (answer_sent op h) ∷ [],
   ap tells (failed_told (is_some (firing op h.plans)) _),
-  sent_steps op (firing op h.plans) (answer_of op (motion_of op h.plans) h.state) (answer_fits op (motion_of op h.plans) h.state),
+  sent_steps op (firing op h.plans) (answer_of op (boot_step_of op h.plans) h.state) (answer_fits op (boot_step_of op h.plans) h.state),
 )
 met_tells (Some pick) op h = (effect_if (is_done pick) (Did op true (Err Stopped)), refl, stop_steps op pick)
 

@@ -28,8 +28,8 @@ garbled_before bytes from end k lt below =
     get_or_append_left (take from bytes ++ junk (min end (length bytes) - from)) (drop (max from end) bytes) 0 k second
     ∙ get_or_append_left (take from bytes) (junk (min end (length bytes) - from)) 0 k first ∙ get_or-take from bytes k 0 below
 
-garbled_behind : (bytes : List ℕ) (from end k : ℕ) → k < length bytes → from ≤ k → end ≤ k → get_or (garbled bytes from end) k 0 ≡ get_or bytes k 0
-garbled_behind bytes from end k lt low above =
+garbled_after : (bytes : List ℕ) (from end k : ℕ) → k < length bytes → from ≤ k → end ≤ k → get_or (garbled bytes from end) k 0 ≡ get_or bytes k 0
+garbled_after bytes from end k lt low above =
     let seam : length (take from bytes ++ junk (min end (length bytes) - from)) ≡ max from end = omega (arith, length_front bytes from end) in
     let place : k ≡ length (take from bytes ++ junk (min end (length bytes) - from)) + (k - max from end) = omega (arith, seam) in
     ap (λ n. get_or (garbled bytes from end) n 0) place
@@ -41,7 +41,7 @@ garbled_elsewhere : (bytes : List ℕ) (from end k : ℕ) → k < length bytes �
 garbled_elsewhere bytes from end k lt (inl below) = garbled_before bytes from end k lt below
 garbled_elsewhere bytes from end k lt (inr above) = elim (cases_lt k from) [
   | inl below ↦ garbled_before bytes from end k lt below
-  | inr low ↦ garbled_behind bytes from end k lt low above
+  | inr low ↦ garbled_after bytes from end k lt low above
 ]
 
 -- where there is nothing between them, all stays

@@ -12,7 +12,7 @@ use Rattle.plant.specs.declared.device.Answer.{Answer}
 use Rattle.plant.specs.declared.device.DeviceOp.{DeviceOp}
 use Rattle.plant.specs.declared.device.DeviceOp.TheVariants.{Join, Leave, Shape, Load, Boot as BootIt, Poll, Wipe}
 use Rattle.plant.specs.declared.device.Fault.{Fault}
-use Rattle.plant_mem.specs.declared.motion.Motion.{Motion}
+use Rattle.plant_mem.specs.declared.boot_step.BootStep.{BootStep}
 use Rattle.plant_mem.specs.declared.nodes.NodeState.{NodeState}
 use Rattle.plant_mem.specs.Boots.{state_in, state_after, state_sent, os_in, os_after, answer_of, moved_by}
 use Rattle.plant.specs.Events.{Event, Did}
@@ -43,33 +43,33 @@ stands true new old state same o = λ s is. o s (sym same ∙ is)
 stands false new old state same o = o
 
 -- the answer of a poll tells the state that it made
-abbrev Tells : DeviceOp → Motion → Result Answer Fault → (List ℕ → Boot) → Type 0
-Tells (Poll node) motion answer kept = Has (told answer) (moved_by motion (kept node))
-Tells op motion answer kept = ⊤
+abbrev Tells : DeviceOp → BootStep → Result Answer Fault → (List ℕ → Boot) → Type 0
+Tells (Poll node) boot_step answer kept = Has (told answer) (moved_by boot_step (kept node))
+Tells op boot_step answer kept = ⊤
 
-polled : (name node : List ℕ) (answer : Result Answer Fault) (row : NodeRow) (kept : List ℕ → Boot) (motion : Motion) → Has (told answer) (moved_by motion (kept node)) → Has row.boot (kept name)
-    → Has (node_polled (Poll node) answer name row).boot (state_after (Poll node) motion name (kept name))
-polled name node answer row kept motion tells old = by (bytes_eq name node) refl
+polled : (name node : List ℕ) (answer : Result Answer Fault) (row : NodeRow) (kept : List ℕ → Boot) (boot_step : BootStep) → Has (told answer) (moved_by boot_step (kept node)) → Has row.boot (kept name)
+    → Has (node_polled (Poll node) answer name row).boot (state_after (Poll node) boot_step name (kept name))
+polled name node answer row kept boot_step tells old = by (bytes_eq name node) refl
   where
     new : NodeRow
     new = record row { boot = told answer }
 
-    by : (test : Bool) → bytes_eq name node ≡ test → Has (if bytes_eq name node then new else row).boot (if bytes_eq node name then moved_by motion (kept name) else kept name)
+    by : (test : Bool) → bytes_eq name node ≡ test → Has (if bytes_eq name node then new else row).boot (if bytes_eq node name then moved_by boot_step (kept name) else kept name)
     by true is =
         let same : node ≡ name = sym ((bytes_eq-Decides name node).0 is) in
-        rw (bytes_turned node name, is) (subst (λ (n : List ℕ). Has (told answer) (moved_by motion (kept n))) same tells)
+        rw (bytes_turned node name, is) (subst (λ (n : List ℕ). Has (told answer) (moved_by boot_step (kept n))) same tells)
     by false is = rw (bytes_turned node name, is) old
 
-applied_one : (op : DeviceOp) (motion : Motion) (answer : Result Answer Fault) (name : List ℕ) (row : NodeRow) (kept : List ℕ → Boot) → Tells op motion answer kept → Has row.boot (kept name)
-    → Has (node_polled op answer name (node_after op name row)).boot (state_after op motion name (kept name))
-applied_one (Join switch port vlan) motion answer name row kept tells old = old
-applied_one (Leave switch port vlan) motion answer name row kept tells old = old
-applied_one (Shape node pipe from to there back) motion answer name row kept tells old =
+applied_one : (op : DeviceOp) (boot_step : BootStep) (answer : Result Answer Fault) (name : List ℕ) (row : NodeRow) (kept : List ℕ → Boot) → Tells op boot_step answer kept → Has row.boot (kept name)
+    → Has (node_polled op answer name (node_after op name row)).boot (state_after op boot_step name (kept name))
+applied_one (Join switch port vlan) boot_step answer name row kept tells old = old
+applied_one (Leave switch port vlan) boot_step answer name row kept tells old = old
+applied_one (Shape node pipe from to there back) boot_step answer name row kept tells old =
     stands (bytes_eq name node) (record row { pipes = pipes_with pipe (record { from = from; to = to; there = there; back = back }) row.pipes }) row (kept name) refl old
-applied_one (Load node os) motion answer name row kept tells old = named name node (record row { os = Some os; boot = Some Off }) row Off (kept name) (same_Some Off) old
-applied_one (BootIt node) motion answer name row kept tells old = named name node (record row { boot = Some Booting }) row Booting (kept name) (same_Some Booting) old
-applied_one (Poll node) motion answer name row kept tells old = polled name node answer row kept motion tells old
-applied_one (Wipe node) motion answer name row kept tells old = named name node wiped row Off (kept name) (same_Some Off) old
+applied_one (Load node os) boot_step answer name row kept tells old = named name node (record row { os = Some os; boot = Some Off }) row Off (kept name) (same_Some Off) old
+applied_one (BootIt node) boot_step answer name row kept tells old = named name node (record row { boot = Some Booting }) row Booting (kept name) (same_Some Booting) old
+applied_one (Poll node) boot_step answer name row kept tells old = polled name node answer row kept boot_step tells old
+applied_one (Wipe node) boot_step answer name row kept tells old = named name node wiped row Off (kept name) (same_Some Off) old
 
 -- a command that was not applied
 missed_one : (op : DeviceOp) (fault : Fault) (name : List ℕ) (row : NodeRow) (state : Boot) → Has row.boot state → Has (node_polled op (Err fault) name row).boot state
@@ -85,28 +85,28 @@ missed_one (Poll node) fault name row state old = by (bytes_eq name node)
     by false = old
 missed_one (Wipe node) fault name row state old = old
 
-answer_tells : (op : DeviceOp) (motion : Motion) (kept : List ℕ → Boot) → Tells op motion (Ok (answer_of op motion kept)) kept
-answer_tells (Join switch port vlan) motion kept = tt
-answer_tells (Leave switch port vlan) motion kept = tt
-answer_tells (Shape node pipe from to there back) motion kept = tt
-answer_tells (Load node os) motion kept = tt
-answer_tells (BootIt node) motion kept = tt
-answer_tells (Poll node) motion kept = same_Some (moved_by motion (kept node))
-answer_tells (Wipe node) motion kept = tt
+answer_tells : (op : DeviceOp) (boot_step : BootStep) (kept : List ℕ → Boot) → Tells op boot_step (Ok (answer_of op boot_step kept)) kept
+answer_tells (Join switch port vlan) boot_step kept = tt
+answer_tells (Leave switch port vlan) boot_step kept = tt
+answer_tells (Shape node pipe from to there back) boot_step kept = tt
+answer_tells (Load node os) boot_step kept = tt
+answer_tells (BootIt node) boot_step kept = tt
+answer_tells (Poll node) boot_step kept = same_Some (moved_by boot_step (kept node))
+answer_tells (Wipe node) boot_step kept = tt
 
-fault_tells : (op : DeviceOp) (motion : Motion) (fault : Fault) (kept : List ℕ → Boot) → Tells op motion (Err fault) kept
-fault_tells (Join switch port vlan) motion fault kept = tt
-fault_tells (Leave switch port vlan) motion fault kept = tt
-fault_tells (Shape node pipe from to there back) motion fault kept = tt
-fault_tells (Load node os) motion fault kept = tt
-fault_tells (BootIt node) motion fault kept = tt
-fault_tells (Poll node) motion fault kept = no_boot (moved_by motion (kept node))
-fault_tells (Wipe node) motion fault kept = tt
+fault_tells : (op : DeviceOp) (boot_step : BootStep) (fault : Fault) (kept : List ℕ → Boot) → Tells op boot_step (Err fault) kept
+fault_tells (Join switch port vlan) boot_step fault kept = tt
+fault_tells (Leave switch port vlan) boot_step fault kept = tt
+fault_tells (Shape node pipe from to there back) boot_step fault kept = tt
+fault_tells (Load node os) boot_step fault kept = tt
+fault_tells (BootIt node) boot_step fault kept = tt
+fault_tells (Poll node) boot_step fault kept = no_boot (moved_by boot_step (kept node))
+fault_tells (Wipe node) boot_step fault kept = tt
 
-sent_one : (op : DeviceOp) (motion : Motion) (applied : Bool) (fault : Fault) (w : World) (name : List ℕ) (kept : List ℕ → Boot) → Has (w.node name).boot (kept name)
-    → Has ((world_after w (Did op applied (Err fault))).node name).boot (state_sent op motion applied name (kept name))
-sent_one op motion true fault w name kept old = applied_one op motion (Err fault) name (w.node name) kept (fault_tells op motion fault kept) old
-sent_one op motion false fault w name kept old = missed_one op fault name (w.node name) (kept name) old
+sent_one : (op : DeviceOp) (boot_step : BootStep) (applied : Bool) (fault : Fault) (w : World) (name : List ℕ) (kept : List ℕ → Boot) → Has (w.node name).boot (kept name)
+    → Has ((world_after w (Did op applied (Err fault))).node name).boot (state_sent op boot_step applied name (kept name))
+sent_one op boot_step true fault w name kept old = applied_one op boot_step (Err fault) name (w.node name) kept (fault_tells op boot_step fault kept) old
+sent_one op boot_step false fault w name kept old = missed_one op fault name (w.node name) (kept name) old
 
 -- THE OS AND THE PIPES of a node after a command and its answer
 turned : (a b : ℕ) → (a == b) ≡ (b == a)
@@ -227,18 +227,18 @@ module _ (trace trace' : List Event) (entries entries' : List NodeState) (pipes 
 pub still : (trace trace' : List Event) (entries : List NodeState) (pipes : List PipeState) → world_of trace' ≡ world_of trace → Knows trace entries pipes → Knows trace' entries pipes
 still trace trace' entries pipes is knows = known_by trace trace' entries entries pipes pipes (world_of trace) is knows.states knows.oses knows.set
 
-pub known_done : (trace trace' : List Event) (entries entries' : List NodeState) (pipes pipes' : List PipeState) (op : DeviceOp) (motion : Motion) (answer : Answer) → world_of trace' ≡ world_after (world_of trace) (Did op true (Ok answer))
-    → answer ≡ answer_of op motion (λ name. state_in name entries) → ((name : List ℕ) → state_in name entries' ≡ state_after op motion name (state_in name entries)) → ((name : List ℕ) → os_in name entries' ≡ os_after op name (os_in name entries))
+pub known_done : (trace trace' : List Event) (entries entries' : List NodeState) (pipes pipes' : List PipeState) (op : DeviceOp) (boot_step : BootStep) (answer : Answer) → world_of trace' ≡ world_after (world_of trace) (Did op true (Ok answer))
+    → answer ≡ answer_of op boot_step (λ name. state_in name entries) → ((name : List ℕ) → state_in name entries' ≡ state_after op boot_step name (state_in name entries)) → ((name : List ℕ) → os_in name entries' ≡ os_after op name (os_in name entries))
     → ((name : List ℕ) (k : ℕ) → option_map pipe_of (pipe_in name k pipes') ≡ pipe_after op name k (option_map pipe_of (pipe_in name k pipes))) → Knows trace entries pipes → Knows trace' entries' pipes'
-known_done trace trace' entries entries' pipes pipes' op motion answer is answered moved oses set knows =
+known_done trace trace' entries entries' pipes pipes' op boot_step answer is answered moved oses set knows =
     let kept : List ℕ → Boot = λ name. state_in name entries in
-    let is' : world_of trace' ≡ world_after (world_of trace) (Did op true (Ok (answer_of op motion kept))) = is ∙ ap (λ (a : Answer). world_after (world_of trace) (Did op true (Ok a))) answered in
-    known_did trace trace' entries entries' pipes pipes' op true (Ok (answer_of op motion kept)) is' oses set knows
-    (λ name s boot. moved name ∙ applied_one op motion (Ok (answer_of op motion kept)) name ((world_of trace).node name) kept (answer_tells op motion kept) (knows.states name) s boot)
+    let is' : world_of trace' ≡ world_after (world_of trace) (Did op true (Ok (answer_of op boot_step kept))) = is ∙ ap (λ (a : Answer). world_after (world_of trace) (Did op true (Ok a))) answered in
+    known_did trace trace' entries entries' pipes pipes' op true (Ok (answer_of op boot_step kept)) is' oses set knows
+    (λ name s boot. moved name ∙ applied_one op boot_step (Ok (answer_of op boot_step kept)) name ((world_of trace).node name) kept (answer_tells op boot_step kept) (knows.states name) s boot)
 
-pub known_failed : (trace trace' : List Event) (entries entries' : List NodeState) (pipes pipes' : List PipeState) (op : DeviceOp) (motion : Motion) (applied : Bool) (fault : Fault) → world_of trace' ≡ world_after (world_of trace) (Did op applied (Err fault))
-    → ((name : List ℕ) → state_in name entries' ≡ state_sent op motion applied name (state_in name entries)) → ((name : List ℕ) → os_in name entries' ≡ os_sent op applied name (os_in name entries))
+pub known_failed : (trace trace' : List Event) (entries entries' : List NodeState) (pipes pipes' : List PipeState) (op : DeviceOp) (boot_step : BootStep) (applied : Bool) (fault : Fault) → world_of trace' ≡ world_after (world_of trace) (Did op applied (Err fault))
+    → ((name : List ℕ) → state_in name entries' ≡ state_sent op boot_step applied name (state_in name entries)) → ((name : List ℕ) → os_in name entries' ≡ os_sent op applied name (os_in name entries))
     → ((name : List ℕ) (k : ℕ) → option_map pipe_of (pipe_in name k pipes') ≡ pipe_sent op applied name k (option_map pipe_of (pipe_in name k pipes))) → Knows trace entries pipes → Knows trace' entries' pipes'
-known_failed trace trace' entries entries' pipes pipes' op motion applied fault is moved oses set knows =
+known_failed trace trace' entries entries' pipes pipes' op boot_step applied fault is moved oses set knows =
     known_did trace trace' entries entries' pipes pipes' op applied (Err fault) is oses set knows
-    (λ name s boot. moved name ∙ sent_one op motion applied fault (world_of trace) name (λ n. state_in n entries) (knows.states name) s boot)
+    (λ name s boot. moved name ∙ sent_one op boot_step applied fault (world_of trace) name (λ n. state_in n entries) (knows.states name) s boot)

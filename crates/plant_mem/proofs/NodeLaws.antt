@@ -1,4 +1,4 @@
--- The table of nodes behind a search by name.
+-- The table of nodes after a search by name.
 use Rattle.std.proofs.Common.{◌≡◌, ◌<◌, ◌≤◌, ℕ, Bool, true, false, List, set, get_or, length, Option, Some, None, Err, refl, ap, if◌then◌else◌}
 use Rattle.std.specs.Cmp.Lexicographic.{slice_cmp, nat_list_cmp_total, texts_ties}
 use Rattle.std.specs.List.{find, insert, HoldsAt}

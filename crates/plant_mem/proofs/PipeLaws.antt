@@ -1,4 +1,4 @@
--- The table of pipes behind a search by node and number.
+-- The table of pipes after a search by node and number.
 use Rattle.std.proofs.Common.{◌≡◌, ◌<◌, ◌≤◌, ℕ, Bool, true, false, List, set, get_or, length, Option, Some, None, Err, refl, sym, ap, ap₂, ◌∙◌, arith, if◌then◌else◌}
 use Rattle.std.specs.Prelude.{◌&&◌, ◌==◌}
 use Rattle.std.specs.Cmp.{IsTotalOrder}

@@ -1,4 +1,4 @@
--- The sides behind a start were possible images.
+-- The sides after a start were possible images.
 use Rattle.std.proofs.Common.{◌≡◌, ℕ, List, [], ◌∷◌, Option, Some, Result, Ok, Err, ap}
 use Rattle.std.specs.Prelude.{OnOk}
 use Rattle.plant.specs.Disks.{disk, ArePossible}

@@ -15,7 +15,7 @@ use Rattle.plant.specs.declared.device.Fault.{Fault}
 use Rattle.plant.specs.declared.device.DeviceOp.{DeviceOp}
 use Rattle.plant.specs.declared.device.DeviceOp.TheVariants.{Join, Leave}
 use Rattle.plant_mem.specs.declared.rows.Row.{Row}
-use Rattle.plant_mem.specs.RowTables.{AreRows, are_ordered, entries_on, entry_of, index, is_earlier, is_fit, is_ordered, is_same, joined, left, place, placed, row_of}
+use Rattle.plant_mem.specs.RowTables.{AreRows, are_ordered, entries_on, entry_of, index, is_earlier, is_fit, is_ordered, is_same, joined, left, index_for, placed, row_of}
 use Rattle.plant.specs.Readings.{IsBefore, IsEntry, IsListOf, IsNth, TellsRow}
 use Rattle.plant.specs.Readings as readings
 use Rattle.plant.proofs.Fronts.{nth_of}
@@ -56,19 +56,19 @@ is_earlier_by a b e (inl h) = and_from _ _ ((bytes_eq-Decides a.switch b.switch)
 is_earlier_by a b e (inr h) = and_from _ _ ((bytes_eq-Decides a.switch b.switch).1 e) (or_right _ _ (and_from _ _ (eq-eqb a.port b.port h.0) (lt-ltb a.vlan.0 b.vlan.0 h.1)))
 
 -- the row at its place
-pub at_place : (row : Row) (rows : List Row) → insert rows (place row rows) row ≡ placed row rows
+pub at_place : (row : Row) (rows : List Row) → insert rows (index_for row rows) row ≡ placed row rows
 at_place row [] = refl
 at_place row (other ∷ rows) = by (is_earlier row other) (at_place row rows)
   where
-    by : (test : Bool) → insert rows (place row rows) row ≡ placed row rows → insert (other ∷ rows) (if test then 0 else suc (place row rows)) row ≡ (if test then row ∷ other ∷ rows else other ∷ placed row rows)
+    by : (test : Bool) → insert rows (index_for row rows) row ≡ placed row rows → insert (other ∷ rows) (if test then 0 else suc (index_for row rows)) row ≡ (if test then row ∷ other ∷ rows else other ∷ placed row rows)
     by true rest = refl
     by false rest = ap (λ (l : List Row). other ∷ l) rest
 
-pub place_within : (row : Row) (rows : List Row) → place row rows ≤ length rows
+pub place_within : (row : Row) (rows : List Row) → index_for row rows ≤ length rows
 place_within row [] = omega arith
 place_within row (other ∷ rows) = by (is_earlier row other) (place_within row rows)
   where
-    by : (test : Bool) → place row rows ≤ length rows → (if test then 0 else suc (place row rows)) ≤ length (other ∷ rows)
+    by : (test : Bool) → index_for row rows ≤ length rows → (if test then 0 else suc (index_for row rows)) ≤ length (other ∷ rows)
     by true rest = omega arith
     by false rest = omega (arith, rest)
 

@@ -6,8 +6,8 @@ use Rattle.plant.specs.Events.{Event}
 use Rattle.plant.specs.Sides.{of_side}
 use Rattle.plant.specs.declared.step.Side.{Side}
 use Rattle.plant.specs.declared.step.Side.TheVariants.{A, B}
-use Rattle.plant_mem.specs.Faces.{HasMore}
-use Rattle.plant_mem.specs.MemLab.{told_of, face_of}
+use Rattle.plant_mem.specs.MemSides.{HasMore}
+use Rattle.plant_mem.specs.MemLab.{told_of, mem_side_of}
 use Rattle.plant_mem.specs.Rooms.{HasSide, side_rooms}
 use Rattle.plant_mem.specs.Steps.{trace_of}
 use Rattle.plant_mem.specs.declared.mem.MemLab.{MemLab}
@@ -33,5 +33,5 @@ module _ (past : Past) where
     writes = omega (arith, h.table);
   }
 
-pub reads_len : (m : MemLab) (side : Side) → length (disk side (told_of m).trace).reads ≡ vec_len (face_of m side).reads
+pub reads_len : (m : MemLab) (side : Side) → length (disk side (told_of m).trace).reads ≡ vec_len (mem_side_of m side).reads
 reads_len m side = reads_of m.past side

@@ -11,8 +11,8 @@ use Rattle.plant.specs.declared.device.DeviceOp.{DeviceOp}
 use Rattle.plant.specs.declared.device.DeviceOp.TheVariants.{Load, Boot as BootIt, Poll, Wipe}
 use Rattle.plant.specs.declared.device.Answer.{Answer}
 use Rattle.plant.specs.declared.device.Answer.TheVariants.{Done, State}
-use Rattle.plant_mem.specs.declared.motion.Motion.{Motion}
-use Rattle.plant_mem.specs.declared.motion.Motion.TheVariants.{Moves, Hangs, Jumps}
+use Rattle.plant_mem.specs.declared.boot_step.BootStep.{BootStep}
+use Rattle.plant_mem.specs.declared.boot_step.BootStep.TheVariants.{Moves, Hangs, Jumps}
 use Rattle.plant_mem.specs.declared.nodes.NodeState.{NodeState}
 
 -- the entry is the node's
@@ -46,22 +46,22 @@ moved TbSetup = IsUp
 moved state = state
 
 -- the same where the node hangs, or jumps
-abbrev pub moved_by : Motion → Boot → Boot
+abbrev pub moved_by : BootStep → Boot → Boot
 moved_by Moves state = moved state
 moved_by Hangs state = state
 moved_by Jumps state = IsUp
 
 -- the named node's boot state after a command that was applied; a poll moves as is told
-abbrev pub state_after : DeviceOp → Motion → List ℕ → Boot → Boot
-state_after (Load node os) motion name state = if bytes_eq node name then Off else state
-state_after (BootIt node) motion name state = if bytes_eq node name then Booting else state
-state_after (Poll node) motion name state = if bytes_eq node name then moved_by motion state else state
-state_after (Wipe node) motion name state = if bytes_eq node name then Off else state
-state_after op motion name state = state
+abbrev pub state_after : DeviceOp → BootStep → List ℕ → Boot → Boot
+state_after (Load node os) boot_step name state = if bytes_eq node name then Off else state
+state_after (BootIt node) boot_step name state = if bytes_eq node name then Booting else state
+state_after (Poll node) boot_step name state = if bytes_eq node name then moved_by boot_step state else state
+state_after (Wipe node) boot_step name state = if bytes_eq node name then Off else state
+state_after op boot_step name state = state
 
 -- the same of a command that may not have been applied
-abbrev pub state_sent : DeviceOp → Motion → Bool → List ℕ → Boot → Boot
-state_sent op motion applied name state = if applied then state_after op motion name state else state
+abbrev pub state_sent : DeviceOp → BootStep → Bool → List ℕ → Boot → Boot
+state_sent op boot_step applied name state = if applied then state_after op boot_step name state else state
 
 -- the named node's OS after a command that was applied
 abbrev pub os_after : DeviceOp → List ℕ → Option (List ℕ) → Option (List ℕ)
@@ -70,6 +70,6 @@ os_after (Wipe node) name had = if bytes_eq node name then None else had
 os_after op name had = had
 
 -- the answer of a command that is done, by the state that its node had
-abbrev pub answer_of : DeviceOp → Motion → (List ℕ → Boot) → Answer
-answer_of (Poll node) motion state = State (moved_by motion (state node))
-answer_of op motion state = Done
+abbrev pub answer_of : DeviceOp → BootStep → (List ℕ → Boot) → Answer
+answer_of (Poll node) boot_step state = State (moved_by boot_step (state node))
+answer_of op boot_step state = Done

@@ -1,4 +1,4 @@
--- The state behind the other calls of a plant in memory: commands, drills, marks and starts.
+-- The state after the other calls of a plant in memory: commands, drills, marks and starts.
 use Rattle.std.specs.Prelude.{Bool, true, false, [], ◌∷◌, ◌++◌, map, length, Option, Some, None, is_some, Result, Err, if◌then◌else◌}
 use Rattle.lab_base.specs.Lists.{listed}
 use Rattle.plant.specs.Disks.{disk}
@@ -15,15 +15,15 @@ use Rattle.plant_mem.specs.Boots.{answer_of, state_sent}
 use Rattle.plant_mem.specs.DiskPlans.{stops_next, stop_counted, stop_planned, disk_planned, is_done}
 use Rattle.plant_mem.specs.Held.{Held, with_events, effect_if, one_more, halted}
 use Rattle.plant_mem.specs.Picks.{left_by}
-use Rattle.plant_mem.specs.Plans.{firing, motion_of, counted, plan_of, is_applied, answer_by}
+use Rattle.plant_mem.specs.Plans.{firing, boot_step_of, counted, plan_of, is_applied, answer_by}
 
 -- a command counts in the drills of devices, and moves the boot states where it is applied
 abbrev pub used : DeviceOp → Bool → Held → Held
-used op applied h = record h { plans = map (counted op applied) h.plans; state = λ node. state_sent op (motion_of op h.plans) applied node (h.state node) }
+used op applied h = record h { plans = map (counted op applied) h.plans; state = λ node. state_sent op (boot_step_of op h.plans) applied node (h.state node) }
 
 -- the answer of a command that is sent, and what it leaves: it fails by the first drill that says so
 abbrev pub answer_sent : DeviceOp → Held → Result Answer Fault
-answer_sent op h = answer_by (firing op h.plans) (answer_of op (motion_of op h.plans) h.state)
+answer_sent op h = answer_by (firing op h.plans) (answer_of op (boot_step_of op h.plans) h.state)
 
 abbrev pub failed_if : Bool → Held → Held
 failed_if true h = record h { faults = record h.faults { devices = one_more h.faults.devices } }

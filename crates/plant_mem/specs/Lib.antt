@@ -1,8 +1,8 @@
 pub mod Boots
 pub mod Commands
 pub mod DiskPlans
-pub mod Faces
-pub mod Fates
+pub mod MemSides
+pub mod CallEnds
 pub mod Held
 pub mod Knows
 pub mod MemLab

@@ -2,7 +2,7 @@
 use Rattle.std.specs.Prelude.{ℕ, Bool, List, Some}
 use Rattle.lab_base.specs.declared.boot.Boot.{Boot}
 use Rattle.plant.specs.Sides.{of_side}
-use Rattle.plant_mem.specs.declared.face.Face.{Face}
+use Rattle.plant_mem.specs.declared.mem_side.MemSide.{MemSide}
 use Rattle.plant.specs.declared.step.Side.{Side}
 use Rattle.plant_mem.specs.declared.mem.MemLab.{MemLab}
 use Rattle.plant.specs.declared.moment.Faults.{Faults}
@@ -32,5 +32,5 @@ abbrev pub state_of : MemLab → List ℕ → Boot
 state_of m node = state_in node m.past.nodes.nodes.items
 
 -- a side as the plant keeps it
-abbrev pub face_of : MemLab → Side → Face
-face_of m side = of_side side m.past.a m.past.b
+abbrev pub mem_side_of : MemLab → Side → MemSide
+mem_side_of m side = of_side side m.past.a m.past.b

@@ -11,8 +11,8 @@ use Rattle.plant.specs.declared.drill.Drill.{Drill}
 use Rattle.plant.specs.declared.drill.Drill.TheVariants.{Device, Disk, Stop}
 use Rattle.plant.specs.declared.drill.How.{How}
 use Rattle.plant.specs.declared.drill.How.TheVariants.{Applied, Hang, Jump, Read}
-use Rattle.plant_mem.specs.declared.motion.Motion.{Motion}
-use Rattle.plant_mem.specs.declared.motion.Motion.TheVariants.{Moves, Hangs, Jumps}
+use Rattle.plant_mem.specs.declared.boot_step.BootStep.{BootStep}
+use Rattle.plant_mem.specs.declared.boot_step.BootStep.TheVariants.{Moves, Hangs, Jumps}
 use Rattle.plant_mem.specs.declared.plans.Plan.{Plan}
 use Rattle.plant.specs.Calls.{device_of}
 
@@ -74,8 +74,8 @@ abbrev pub hangs_by : DeviceOp → Plan → Bool
 hangs_by op plan = begins_hang op plan || (counts op plan && plan.hangs)
 
 -- how a poll moves: a jump wins over a hang
-abbrev pub motion_of : DeviceOp → List Plan → Motion
-motion_of op plans = if list_any (jumps_by op) plans then Jumps else if list_any (hangs_by op) plans then Hangs else Moves
+abbrev pub boot_step_of : DeviceOp → List Plan → BootStep
+boot_step_of op plans = if list_any (jumps_by op) plans then Jumps else if list_any (hangs_by op) plans then Hangs else Moves
 
 -- by a Wipe of the node that is applied a hang ends that has begun
 abbrev pub ends_hang : DeviceOp → Bool → Plan → Bool

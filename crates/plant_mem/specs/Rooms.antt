@@ -7,7 +7,7 @@ use Rattle.plant.specs.declared.step.Side.TheVariants.{A, B}
 use Rattle.plant.specs.Sides.{of_side}
 use Rattle.plant_mem.specs.MemLab.{told_of}
 use Rattle.plant_mem.specs.NodeRooms.{node_room}
-use Rattle.plant_mem.specs.declared.face.Face.{Face}
+use Rattle.plant_mem.specs.declared.mem_side.MemSide.{MemSide}
 use Rattle.plant_mem.specs.declared.mem.MemLab.{MemLab}
 
 -- of a side: the most bytes that it may have as it reads and as it is durable, and for how many writes more there is room
@@ -25,8 +25,12 @@ pub record Rooms : Type 0 where
   pub a : SideRooms
   pub b : SideRooms
 
-abbrev pub side_rooms : Face → SideRooms
-side_rooms face = record { reads = vec_capacity face.reads; durable = vec_capacity face.durable; writes = vec_capacity face.written - vec_len face.written }
+abbrev pub side_rooms : MemSide → SideRooms
+side_rooms mem_side = record {
+  reads = vec_capacity mem_side.reads;
+  durable = vec_capacity mem_side.durable;
+  writes = vec_capacity mem_side.written - vec_len mem_side.written;
+}
 
 abbrev pub rooms_of : MemLab → Rooms
 rooms_of m = record {

@@ -46,9 +46,9 @@ pub record AreRows (w : World) (rows : List Row) : Type 0 where
   pub fit : list_all is_fit rows ≡ true
 
 -- how many rows at the front don't come later than a row; the rows with that one before the first that comes later
-abbrev pub place : Row → List Row → ℕ
-place row [] = 0
-place row (other ∷ rows) = if is_earlier row other then 0 else suc (place row rows)
+abbrev pub index_for : Row → List Row → ℕ
+index_for row [] = 0
+index_for row (other ∷ rows) = if is_earlier row other then 0 else suc (index_for row rows)
 
 abbrev pub placed : Row → List Row → List Row
 placed row [] = row ∷ []

@@ -1,15 +1,15 @@
 //! A plant in memory, which tells its trace and takes drills.
 #![tactic(auto)]
 
-mod face;
-mod fate;
+mod boot_step;
+mod call_end;
 mod mem;
 mod mem_disk;
 mod mem_lab;
 mod mem_plant;
 mod mem_readings;
+mod mem_side;
 mod mem_tables;
-mod motion;
 mod node_rows;
 mod node_table;
 mod nodes;
@@ -20,5 +20,5 @@ mod row_table;
 mod rows;
 mod stops;
 
-pub use face::Face;
 pub use mem::MemLab;
+pub use mem_side::MemSide;

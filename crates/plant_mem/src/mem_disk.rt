@@ -2,21 +2,21 @@ ghost use Rattle.std.specs.Prelude.{◌≡◌, ◌≤◌, ◌+◌, length, take,
 ghost use Rattle.plant.specs.DiskCalls.{DiskCause};
 ghost use Rattle.plant.specs.Disks.{disk};
 ghost use Rattle.plant.specs.Events.{Wrote, Synced, Cut};
-ghost use Rattle.plant_mem.specs.Fates.{fate, read_fate, answered, ended, counted_call, counted_read};
+ghost use Rattle.plant_mem.specs.CallEnds.{call_end, read_end, answered, ended, counted_call, counted_read};
 ghost use Rattle.plant_mem.specs.Held.{held_of, with_events, effect_if};
-ghost use Rattle.plant_mem.specs.MemLab.{told_of, faults_of, face_of};
+ghost use Rattle.plant_mem.specs.MemLab.{told_of, faults_of, mem_side_of};
 ghost use Rattle.plant_mem.specs.Rooms.{rooms_of, can_step, can_write, can_sync, can_cut, can_command, KeepsRooms};
-ghost use Rattle.plant_mem.specs.declared.fate.Fate.TheVariants.{Fails};
+ghost use Rattle.plant_mem.specs.declared.call_end.CallEnd.TheVariants.{Fails};
 
-use crate::face::Face;
-use crate::fate::{Fate, meet};
+use crate::call_end::{CallEnd, count_call};
 use crate::mem::MemLab;
+use crate::mem_side::MemSide;
 use crate::stops::count_disk;
 use plant::{Fault, Pick, Side};
 
 impl MemLab {
-    fn face(&self, side: Side) -> &Face
-        ensures { result.now ≡ face_of self.now side }
+    fn mem_side(&self, side: Side) -> &MemSide
+        ensures { result.now ≡ mem_side_of self.now side }
     {
         match side {
             Side::A => &self.past.a,
@@ -42,86 +42,91 @@ impl MemLab {
     pub(crate) fn can_write(&self, side: Side, at: u64, size: usize) -> bool
         ensures { result ≡ can_write self.now side at size }
     {
-        let face = self.face(side);
+        let mem_side = self.mem_side(side);
         self.can_step()
             && size <= self.last_byte.saturating_sub(self.past.bytes.len())
-            && at <= face.reads.len() as u64
-            && size <= face.reads.capacity() - at as usize
-            && 0 < face.written.capacity() - face.written.len()
+            && at <= mem_side.reads.len() as u64
+            && size <= mem_side.reads.capacity() - at as usize
+            && 0 < mem_side.written.capacity() - mem_side.written.len()
     }
 
     #[tactic(auto, using(crate::proofs::Sides::reads_len))]
     pub(crate) fn can_sync(&self, side: Side) -> bool
         ensures { result ≡ can_sync self.now side }
     {
-        let face = self.face(side);
-        self.can_step() && face.reads.len() <= face.durable.capacity()
+        let mem_side = self.mem_side(side);
+        self.can_step() && mem_side.reads.len() <= mem_side.durable.capacity()
     }
 
     #[tactic(auto, using(crate::proofs::Sides::reads_len))]
     pub(crate) fn can_cut(&self, side: Side, size: u64) -> bool
         ensures { result ≡ can_cut self.now side size }
     {
-        self.can_step() && size <= self.face(side).reads.len() as u64
+        self.can_step() && size <= self.mem_side(side).reads.len() as u64
     }
 
     /// Counts a write, a sync or a cut, and answers its end.
-    pub(crate) fn meet(&mut self, has_room: bool) -> Fate
-        ensures fate { result ≡ fate has_room (held_of self.old) }
+    pub(crate) fn count_call(&mut self, has_room: bool) -> CallEnd
+        ensures call_end { result ≡ call_end has_room (held_of self.old) }
         ensures held { held_of self.new ≡ counted_call has_room (held_of self.old) }
         ensures past { self.new.past ≡ self.old.past }
         ensures last_step { self.new.last_step ≡ self.old.last_step }
         ensures last_byte { self.new.last_byte ≡ self.old.last_byte }
     {
         if self.stopped {
-            Fate::Rests
+            CallEnd::AlreadyStopped
         } else if has_room {
-            meet(&mut self.stop, &mut self.disk_plans)
+            count_call(&mut self.stop, &mut self.disk_plans)
         } else {
-            Fate::Stops(Pick::Nothing)
+            CallEnd::Stops(Pick::Nothing)
         }
     }
 
     /// Counts a call that reads, and answers its end.
-    pub(crate) fn meet_read(&mut self) -> Fate
-        ensures fate { result ≡ read_fate (can_step self.old) (held_of self.old) }
+    pub(crate) fn count_read(&mut self) -> CallEnd
+        ensures call_end { result ≡ read_end (can_step self.old) (held_of self.old) }
         ensures held { held_of self.new ≡ counted_read (held_of self.old) }
         ensures past { self.new.past ≡ self.old.past }
         ensures last_step { self.new.last_step ≡ self.old.last_step }
         ensures last_byte { self.new.last_byte ≡ self.old.last_byte }
     {
         if self.stopped {
-            return Fate::Rests;
+            return CallEnd::AlreadyStopped;
         }
         let fails = count_disk(&mut self.disk_plans);
         if fails && self.can_step() {
-            Fate::Fails
+            CallEnd::Fails
         } else {
-            Fate::Done
+            CallEnd::Done
         }
     }
 
-    /// Ends a call as its fate says.
-    pub(crate) fn end<T: Copy>(&mut self, fate: Fate, side: Side, value: T) -> Result<T, Fault>
-        requires { fate ≡ Fails → can_step self.old ≡ true }
-        ensures answer { result ≡ answered fate value }
+    /// Ends a call so.
+    pub(crate) fn end<T: Copy>(
+        &mut self,
+        call_end: CallEnd,
+        side: Side,
+        value: T,
+    ) -> Result<T, Fault>
+        requires { call_end ≡ Fails → can_step self.old ≡ true }
+        ensures answer { result ≡ answered call_end value }
         ensures cause { DiskCause (faults_of self.old) (faults_of self.new) result }
-        ensures held { held_of self.new ≡ ended fate side (held_of self.old) }
+        ensures held { held_of self.new ≡ ended call_end side (held_of self.old) }
         ensures rooms { KeepsRooms 1 0 (rooms_of self.old) (rooms_of self.new) }
-        ensures same { (fate ≡ Fails → ⊥) → rooms_of self.new ≡ rooms_of self.old }
+        ensures same { (call_end ≡ Fails → ⊥) → rooms_of self.new ≡ rooms_of self.old }
     {
-        match fate {
-            Fate::Done => Ok(value),
-            Fate::Fails => {
+        match call_end {
+            CallEnd::Done => Ok(value),
+            CallEnd::Fails => {
                 self.faults.disk = self.faults.disk.saturating_add(1);
                 self.past.missed(side);
                 Err(Fault::Failed)
             }
-            Fate::Stops(pick) => {
+            CallEnd::Stops(pick) => {
                 self.halt(pick);
                 Err(Fault::Stopped)
             }
-            Fate::Rests => Err(Fault::Stopped),
+            CallEnd::AlreadyStopped => Err(Fault::Stopped),
         }
     }
 

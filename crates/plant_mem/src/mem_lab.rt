@@ -10,10 +10,10 @@ ghost use Rattle.plant_mem.specs.MemLab.{told_of, faults_of, bytes_of, state_of}
 ghost use Rattle.plant_mem.specs.Rooms.{rooms_of, can_command, HasRooms, KeepsRooms};
 ghost use Rattle.plant_mem.specs.Steps.{trace_of};
 
+use crate::boot_step::BootStep;
 use crate::mem::{BYTES, MORE_BYTES, MORE_ROOM, MemLab, ROOM};
-use crate::motion::Motion;
 use crate::past::Past;
-use crate::plans::{count_down, failure_of, motion_of};
+use crate::plans::{boot_step_of, count_down, failure_of};
 use crate::rows::Row;
 use crate::stops::{count_stop, is_done};
 use lab_base::{Memory, Name, VlanId};
@@ -78,14 +78,14 @@ impl MemLab {
         ensures held { held_of self.new ≡ sent op.now (held_of self.old) }
         ensures rooms { KeepsRooms 1 0 (rooms_of self.old) (rooms_of self.new) }
     {
-        let motion = motion_of(&self.plans, op);
+        let boot_step = boot_step_of(&self.plans, op);
         let failure = failure_of(&self.plans, op);
         count_down(&mut self.plans, op, failure.unwrap_or(true));
         match failure {
-            None => Ok(self.past.done(op, motion)),
+            None => Ok(self.past.done(op, boot_step)),
             Some(applied) => {
                 self.faults.devices = self.faults.devices.saturating_add(1);
-                self.past.failed(op, motion, applied, Fault::Failed);
+                self.past.failed(op, boot_step, applied, Fault::Failed);
                 Err(Fault::Failed)
             }
         }
@@ -97,22 +97,22 @@ impl MemLab {
         ensures held { held_of self.new ≡ stopped_at op.now pick (held_of self.old) }
         ensures rooms { KeepsRooms 1 0 (rooms_of self.old) (rooms_of self.new) }
     {
-        let motion = motion_of(&self.plans, op);
+        let boot_step = boot_step_of(&self.plans, op);
         count_down(&mut self.plans, op, is_done(pick));
-        self.apply_if(is_done(pick), op, motion);
+        self.apply_if(is_done(pick), op, boot_step);
         self.halt(pick);
     }
 
     /// Notes a command at which the plant stops, applied or not.
-    fn apply_if(&mut self, applied: bool, op: &DeviceOp, motion: Motion)
+    fn apply_if(&mut self, applied: bool, op: &DeviceOp, boot_step: BootStep)
         requires { can_command self.old ≡ true }
         ensures held { held_of self.new
             ≡ record (with_events (effect_if applied (Did op.now true (Err Fault.Stopped))) (held_of self.old))
-            { state = λ node. state_sent op.now motion applied node (state_of self.old node) } }
+            { state = λ node. state_sent op.now boot_step applied node (state_of self.old node) } }
         ensures rooms { KeepsRooms 1 0 (rooms_of self.old) (rooms_of self.new) }
     {
         if applied {
-            self.past.failed(op, motion, true, Fault::Stopped);
+            self.past.failed(op, boot_step, true, Fault::Stopped);
         }
     }
 

@@ -12,7 +12,7 @@ impl Plant for MemLab {
     ghost use Rattle.plant.specs.Events.{Event, Wrote, Synced, Cut, Restarted};
     ghost use Rattle.plant.specs.Told.{with_steps, with_mark, with_drill};
     ghost use Rattle.plant_mem.specs.Commands.{after_command, answer_command, drilled, marked, restarted};
-    ghost use Rattle.plant_mem.specs.Fates.{fate, read_fate, answered, after_call, after_read};
+    ghost use Rattle.plant_mem.specs.CallEnds.{call_end, read_end, answered, after_call, after_read};
     ghost use Rattle.plant_mem.specs.Held.{held_of};
     ghost use Rattle.plant_mem.specs.MemLab.{told_of, seen_of, faults_of, stopped_of};
     ghost use Rattle.plant_mem.specs.Possible.{reads_possible_of};
@@ -31,13 +31,13 @@ impl Plant for MemLab {
         ensures cause { DiskCause (faults_of self.old) (faults_of self.new) result }
         ensures stopped { IsErrOf result Fault.Stopped ↔ IsTrue (stopped_of self.new) }
         ensures still { stopped_of self.new ≡ stopped_of self.old }
-        ensures answer { result ≡ answered (read_fate (can_step self.old) (held_of self.old)) (length (disk side (told_of self.old).trace).reads) }
+        ensures answer { result ≡ answered (read_end (can_step self.old) (held_of self.old)) (length (disk side (told_of self.old).trace).reads) }
         ensures leaves { held_of self.new ≡ after_read (can_step self.old) side (held_of self.old) }
         ensures rooms { KeepsRooms 1 0 (rooms_of self.old) (rooms_of self.new) }
     {
         let length = self.past.length(side) as u64;
-        let fate = self.meet_read();
-        self.end(fate, side, length)
+        let call_end = self.count_read();
+        self.end(call_end, side, length)
     }
 
     /// Fails exactly where a drill says so, while there is room for a step.
@@ -48,13 +48,13 @@ impl Plant for MemLab {
         ensures cause { DiskCause (faults_of self.old) (faults_of self.new) result }
         ensures stopped { IsErrOf result Fault.Stopped ↔ IsTrue (stopped_of self.new) }
         ensures still { stopped_of self.new ≡ stopped_of self.old }
-        ensures answer { result ≡ answered (read_fate (can_step self.old) (held_of self.old)) tt }
+        ensures answer { result ≡ answered (read_end (can_step self.old) (held_of self.old)) tt }
         ensures leaves { held_of self.new ≡ after_read (can_step self.old) side (held_of self.old) }
         ensures rooms { KeepsRooms 1 0 (rooms_of self.old) (rooms_of self.new) }
     {
-        let fate = self.meet_read();
-        self.read_if(fate.has_effect(), side, at, into);
-        self.end(fate, side, ())
+        let call_end = self.count_read();
+        self.read_if(call_end.has_effect(), side, at, into);
+        self.end(call_end, side, ())
     }
 
     /// Fails or stops exactly where a drill says so, while there is room; else it stops, without effect.
@@ -63,14 +63,14 @@ impl Plant for MemLab {
             × WriteSteps side at bytes.now (stopped_of self.old) result steps }
         ensures cause { DiskCause (faults_of self.old) (faults_of self.new) result }
         ensures stopped { IsErrOf result Fault.Stopped ↔ IsTrue (stopped_of self.new) }
-        ensures answer { result ≡ answered (fate (can_write self.old side at (length bytes.now)) (held_of self.old)) tt }
+        ensures answer { result ≡ answered (call_end (can_write self.old side at (length bytes.now)) (held_of self.old)) tt }
         ensures leaves { held_of self.new ≡ after_call (can_write self.old side at (length bytes.now)) side (Wrote side at bytes.now) (held_of self.old) }
         ensures rooms { KeepsRooms 1 (length bytes.now) (rooms_of self.old) (rooms_of self.new) }
     {
         let has_room = self.can_write(side, at, bytes.len());
-        let fate = self.meet(has_room);
-        self.write_if(fate.has_effect(), side, at, bytes);
-        self.end(fate, side, ())
+        let call_end = self.count_call(has_room);
+        self.write_if(call_end.has_effect(), side, at, bytes);
+        self.end(call_end, side, ())
     }
 
     /// Fails or stops exactly where a drill says so, while there is room; else it stops, without effect.
@@ -79,14 +79,14 @@ impl Plant for MemLab {
             × SyncSteps side (stopped_of self.old) result steps }
         ensures cause { DiskCause (faults_of self.old) (faults_of self.new) result }
         ensures stopped { IsErrOf result Fault.Stopped ↔ IsTrue (stopped_of self.new) }
-        ensures answer { result ≡ answered (fate (can_sync self.old side) (held_of self.old)) tt }
+        ensures answer { result ≡ answered (call_end (can_sync self.old side) (held_of self.old)) tt }
         ensures leaves { held_of self.new ≡ after_call (can_sync self.old side) side (Synced side) (held_of self.old) }
         ensures rooms { KeepsRooms 1 0 (rooms_of self.old) (rooms_of self.new) }
     {
         let has_room = self.can_sync(side);
-        let fate = self.meet(has_room);
-        self.sync_if(fate.has_effect(), side);
-        self.end(fate, side, ())
+        let call_end = self.count_call(has_room);
+        self.sync_if(call_end.has_effect(), side);
+        self.end(call_end, side, ())
     }
 
     /// Fails or stops exactly where a drill says so, while there is room; else it stops, without effect.
@@ -95,14 +95,14 @@ impl Plant for MemLab {
             × CutSteps side size (stopped_of self.old) result steps }
         ensures cause { DiskCause (faults_of self.old) (faults_of self.new) result }
         ensures stopped { IsErrOf result Fault.Stopped ↔ IsTrue (stopped_of self.new) }
-        ensures answer { result ≡ answered (fate (can_cut self.old side size) (held_of self.old)) tt }
+        ensures answer { result ≡ answered (call_end (can_cut self.old side size) (held_of self.old)) tt }
         ensures leaves { held_of self.new ≡ after_call (can_cut self.old side size) side (Cut side size) (held_of self.old) }
         ensures rooms { KeepsRooms 1 0 (rooms_of self.old) (rooms_of self.new) }
     {
         let has_room = self.can_cut(side, size);
-        let fate = self.meet(has_room);
-        self.cut_if(fate.has_effect(), side, size);
-        self.end(fate, side, ())
+        let call_end = self.count_call(has_room);
+        self.cut_if(call_end.has_effect(), side, size);
+        self.end(call_end, side, ())
     }
 
     /// Leaves of each side the part that the stop's pick says, and makes the rooms of a blank plant anew.

@@ -4,7 +4,7 @@ ghost use Rattle.plant.specs.Readings.{pipe_of};
 ghost use Rattle.plant_mem.specs.Boots.{state_in, state_after, state_sent, os_in, os_after, answer_of, NodesRise};
 ghost use Rattle.plant_mem.specs.Pipes.{pipe_in, pipe_after, EndsAt, PipesRise};
 
-use crate::motion::Motion;
+use crate::boot_step::BootStep;
 use crate::nodes::NodeState;
 use crate::pipes::PipeState;
 use crate::{nodes, pipes};
@@ -62,23 +62,23 @@ impl NodeTable {
     }
 
     /// Applies a command, and answers it.
-    pub fn apply(&mut self, op: &DeviceOp, motion: Motion) -> Answer
+    pub fn apply(&mut self, op: &DeviceOp, boot_step: BootStep) -> Answer
         requires { 0 < node_room self.old }
-        ensures states { (name : List ℕ) → state_in name self.new.nodes.items ≡ state_after op.now motion name (state_in name self.old.nodes.items) }
+        ensures states { (name : List ℕ) → state_in name self.new.nodes.items ≡ state_after op.now boot_step name (state_in name self.old.nodes.items) }
         ensures oses { (name : List ℕ) → os_in name self.new.nodes.items ≡ os_after op.now name (os_in name self.old.nodes.items) }
         ensures set { (name : List ℕ) (k : ℕ) → option_map pipe_of (pipe_in name k self.new.pipes.items)
             ≡ pipe_after op.now name k (option_map pipe_of (pipe_in name k self.old.pipes.items)) }
-        ensures answer { result ≡ answer_of op.now motion (λ name. state_in name self.old.nodes.items) }
+        ensures answer { result ≡ answer_of op.now boot_step (λ name. state_in name self.old.nodes.items) }
         ensures room { node_room self.old ≤ node_room self.new + 1 }
     {
         self.end = pipes::apply(&mut self.pipes, self.end, op);
-        nodes::apply(&mut self.nodes, op, motion)
+        nodes::apply(&mut self.nodes, op, boot_step)
     }
 
     /// Applies a command, or not.
-    pub fn apply_if(&mut self, applied: bool, op: &DeviceOp, motion: Motion)
+    pub fn apply_if(&mut self, applied: bool, op: &DeviceOp, boot_step: BootStep)
         requires { 0 < node_room self.old }
-        ensures states { (name : List ℕ) → state_in name self.new.nodes.items ≡ state_sent op.now motion applied name (state_in name self.old.nodes.items) }
+        ensures states { (name : List ℕ) → state_in name self.new.nodes.items ≡ state_sent op.now boot_step applied name (state_in name self.old.nodes.items) }
         ensures oses { (name : List ℕ) → os_in name self.new.nodes.items ≡ (if applied then os_after op.now name (os_in name self.old.nodes.items) else os_in name self.old.nodes.items) }
         ensures set { (name : List ℕ) (k : ℕ) → option_map pipe_of (pipe_in name k self.new.pipes.items)
             ≡ (if applied then pipe_after op.now name k (option_map pipe_of (pipe_in name k self.old.pipes.items))
@@ -86,7 +86,7 @@ impl NodeTable {
         ensures room { node_room self.old ≤ node_room self.new + 1 }
     {
         if applied {
-            let _answer = self.apply(op, motion);
+            let _answer = self.apply(op, boot_step);
         }
     }
 }

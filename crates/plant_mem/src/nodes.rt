@@ -7,7 +7,7 @@ ghost use Rattle.std.specs.Ordering.{nat_cmp};
 ghost use Rattle.std.specs.Str.{bytes_eq};
 ghost use Rattle.plant_mem.specs.Boots.{is_of, state_in, state_after, os_in, os_after, answer_of, NodesRise};
 
-use crate::motion::Motion;
+use crate::boot_step::BootStep;
 use lab_base::{Boot, Name};
 use plant::{Answer, DeviceOp};
 
@@ -110,13 +110,13 @@ fn set_state(nodes: &mut Vec<NodeState>, node: &Name, state: Boot)
 }
 
 /// Applies a command to the nodes, and answers it.
-pub(crate) fn apply(nodes: &mut Vec<NodeState>, op: &DeviceOp, motion: Motion) -> Answer
+pub(crate) fn apply(nodes: &mut Vec<NodeState>, op: &DeviceOp, boot_step: BootStep) -> Answer
     requires room { vec_len nodes.old < vec_capacity nodes.old }
     requires rise { NodesRise nodes.old.items }
     ensures rise { NodesRise nodes.new.items }
-    ensures states { (name : List ℕ) → state_in name nodes.new.items ≡ state_after op.now motion name (state_in name nodes.old.items) }
+    ensures states { (name : List ℕ) → state_in name nodes.new.items ≡ state_after op.now boot_step name (state_in name nodes.old.items) }
     ensures oses { (name : List ℕ) → os_in name nodes.new.items ≡ os_after op.now name (os_in name nodes.old.items) }
-    ensures answer { result ≡ answer_of op.now motion (λ name. state_in name nodes.old.items) }
+    ensures answer { result ≡ answer_of op.now boot_step (λ name. state_in name nodes.old.items) }
     ensures len { vec_len nodes.new ≤ vec_len nodes.old + 1 }
     ensures capacity { vec_capacity nodes.new ≡ vec_capacity nodes.old }
 {
@@ -134,7 +134,7 @@ pub(crate) fn apply(nodes: &mut Vec<NodeState>, op: &DeviceOp, motion: Motion) -
             Answer::Done
         }
         DeviceOp::Poll { node } => {
-            let state = motion.of(state_in(nodes, node));
+            let state = boot_step.of(state_in(nodes, node));
             set_state(nodes, node, state);
             Answer::State(state)
         }

@@ -1,7 +1,7 @@
 ghost use Rattle.std.specs.Prelude.{◌≡◌, ◌<◌, ◌≤◌, ◌+◌, ◌++◌, [], ◌∷◌, ℕ, true, length, vec_len, vec_capacity};
 ghost use Rattle.plant.specs.Disks.{disk, wrote, synced, shortened, on_side, same_side};
 ghost use Rattle.plant.specs.Sides.{of_side};
-ghost use Rattle.plant_mem.specs.Faces.{disk_of, KeepsRoom, HasMore};
+ghost use Rattle.plant_mem.specs.MemSides.{disk_of, KeepsRoom, HasMore};
 ghost use Rattle.plant_mem.specs.Knows.{Knows};
 ghost use Rattle.plant_mem.specs.Picks.{left_by};
 ghost use Rattle.plant_mem.specs.RowTables.{AreRows};
@@ -10,8 +10,8 @@ ghost use Rattle.plant.specs.Worlds.{world_of};
 ghost use Rattle.plant.specs.declared.drill.Pick.{Pick};
 ghost use Rattle.plant.specs.declared.step.Side.TheVariants.{A, B};
 
-use crate::face::{Face, most};
-use crate::motion::Motion;
+use crate::boot_step::BootStep;
+use crate::mem_side::{MemSide, most};
 use crate::node_table::NodeTable;
 use crate::row_table;
 use crate::rows::Row;
@@ -27,8 +27,8 @@ const STEPS_LIMIT: usize = 1_000_000;
 pub struct Past {
     pub steps: Vec<Step>,
     pub bytes: Vec<u8>,
-    pub a: Face,
-    pub b: Face,
+    pub a: MemSide,
+    pub b: MemSide,
     pub nodes: NodeTable,
     pub rows: Vec<Row>,
     ghost within: { are_within (length bytes.items) steps.items ≡ true },
@@ -51,14 +51,14 @@ fn add_step(steps: &mut Vec<Step>, step: &Step)
 }
 
 /// The most bytes that a stop may leave of a side.
-fn most_of(face: &Face) -> usize
-    ensures { (pick : Pick) → length (left_by pick (disk_of face.now)) ≤ result }
+fn most_of(mem_side: &MemSide) -> usize
+    ensures { (pick : Pick) → length (left_by pick (disk_of mem_side.now)) ≤ result }
 {
-    most(face.durable.len(), face.reads.len())
+    most(mem_side.durable.len(), mem_side.reads.len())
 }
 
 /// Writes on that one of both sides.
-fn put_on(a: &mut Face, b: &mut Face, side: Side, at: usize, bytes: &[u8])
+fn put_on(a: &mut MemSide, b: &mut MemSide, side: Side, at: usize, bytes: &[u8])
     requires at { at ≤ vec_len (of_side side a.old b.old).reads }
     requires room { at + length bytes.now ≤ vec_capacity (of_side side a.old b.old).reads }
     requires table { vec_len (of_side side a.old b.old).written < vec_capacity (of_side side a.old b.old).written }
@@ -74,7 +74,7 @@ fn put_on(a: &mut Face, b: &mut Face, side: Side, at: usize, bytes: &[u8])
 }
 
 /// Makes that one of both sides durable.
-fn sync_on(a: &mut Face, b: &mut Face, side: Side)
+fn sync_on(a: &mut MemSide, b: &mut MemSide, side: Side)
     requires { vec_len (of_side side a.old b.old).reads ≤ vec_capacity (of_side side a.old b.old).durable }
     ensures a { disk_of a.new ≡ on_side (same_side side A) synced (disk_of a.old) }
     ensures b { disk_of b.new ≡ on_side (same_side side B) synced (disk_of b.old) }
@@ -88,7 +88,7 @@ fn sync_on(a: &mut Face, b: &mut Face, side: Side)
 }
 
 /// Cuts that one of both sides.
-fn shorten_on(a: &mut Face, b: &mut Face, side: Side, size: usize)
+fn shorten_on(a: &mut MemSide, b: &mut MemSide, side: Side, size: usize)
     requires { size ≤ vec_len (of_side side a.old b.old).reads }
     ensures a { disk_of a.new ≡ on_side (same_side side A) (λ d. shortened d size) (disk_of a.old) }
     ensures b { disk_of b.new ≡ on_side (same_side side B) (λ d. shortened d size) (disk_of b.old) }
@@ -108,7 +108,7 @@ impl Past {
     ghost use Rattle.plant.specs.Events as events;
     ghost use Rattle.plant.specs.Disks.{disk};
     ghost use Rattle.plant.specs.Sides.{of_side};
-    ghost use Rattle.plant_mem.specs.Faces.{disk_of, KeepsRoom, HasMore};
+    ghost use Rattle.plant_mem.specs.MemSides.{disk_of, KeepsRoom, HasMore};
     ghost use Rattle.plant_mem.specs.NodeRooms.{node_room};
     ghost use Rattle.plant_mem.specs.Picks.{left_by};
     ghost use Rattle.plant_mem.specs.Steps.{trace_of};
@@ -129,23 +129,23 @@ impl Past {
         Ok(Past {
             steps: Vec::with_capacity(alloc, steps)?,
             bytes: Vec::with_capacity(alloc, bytes)?,
-            a: Face::new(alloc, steps, bytes)?,
-            b: Face::new(alloc, steps, bytes)?,
+            a: MemSide::new(alloc, steps, bytes)?,
+            b: MemSide::new(alloc, steps, bytes)?,
             nodes: NodeTable::new(alloc, steps)?,
             rows: Vec::with_capacity(alloc, steps)?,
         })
     }
 
     /// Notes a command that is applied, and answers it.
-    pub fn done(&mut self, op: &DeviceOp, motion: Motion) -> Answer
+    pub fn done(&mut self, op: &DeviceOp, boot_step: BootStep) -> Answer
         requires steps { vec_len self.old.steps < vec_capacity self.old.steps }
         requires nodes { 0 < node_room self.old.nodes }
         requires rows { vec_len self.old.rows < vec_capacity self.old.rows }
-        ensures answer { result ≡ answer_of op.now motion (λ name. state_in name self.old.nodes.nodes.items) }
+        ensures answer { result ≡ answer_of op.now boot_step (λ name. state_in name self.old.nodes.nodes.items) }
         ensures trace { trace_of self.new.bytes.items self.new.steps.items
             ≡ trace_of self.old.bytes.items self.old.steps.items ++ events.Did op.now true (Ok result) ∷ [] }
         ensures states { (name : List ℕ) → state_in name self.new.nodes.nodes.items
-            ≡ state_after op.now motion name (state_in name self.old.nodes.nodes.items) }
+            ≡ state_after op.now boot_step name (state_in name self.old.nodes.nodes.items) }
         ensures steps { vec_len self.new.steps ≡ vec_len self.old.steps + 1 }
         ensures capacity { vec_capacity self.new.steps ≡ vec_capacity self.old.steps }
         ensures nodes { node_room self.old.nodes ≤ node_room self.new.nodes + 1 }
@@ -156,7 +156,7 @@ impl Past {
         ensures b { self.new.b ≡ self.old.b }
     {
         row_table::apply(&mut self.rows, op);
-        let answer = self.nodes.apply(op, motion);
+        let answer = self.nodes.apply(op, boot_step);
         add_step(
             &mut self.steps,
             &Step::Did {
@@ -169,14 +169,14 @@ impl Past {
     }
 
     /// Notes a command with that fault, applied or not.
-    pub fn failed(&mut self, op: &DeviceOp, motion: Motion, applied: bool, fault: Fault)
+    pub fn failed(&mut self, op: &DeviceOp, boot_step: BootStep, applied: bool, fault: Fault)
         requires steps { vec_len self.old.steps < vec_capacity self.old.steps }
         requires nodes { 0 < node_room self.old.nodes }
         requires rows { vec_len self.old.rows < vec_capacity self.old.rows }
         ensures trace { trace_of self.new.bytes.items self.new.steps.items
             ≡ trace_of self.old.bytes.items self.old.steps.items ++ events.Did op.now applied (Err fault) ∷ [] }
         ensures states { (name : List ℕ) → state_in name self.new.nodes.nodes.items
-            ≡ state_sent op.now motion applied name (state_in name self.old.nodes.nodes.items) }
+            ≡ state_sent op.now boot_step applied name (state_in name self.old.nodes.nodes.items) }
         ensures steps { vec_len self.new.steps ≡ vec_len self.old.steps + 1 }
         ensures capacity { vec_capacity self.new.steps ≡ vec_capacity self.old.steps }
         ensures nodes { node_room self.old.nodes ≤ node_room self.new.nodes + 1 }
@@ -187,7 +187,7 @@ impl Past {
         ensures b { self.new.b ≡ self.old.b }
     {
         row_table::apply_if(applied, &mut self.rows, op);
-        self.nodes.apply_if(applied, op, motion);
+        self.nodes.apply_if(applied, op, boot_step);
         add_step(
             &mut self.steps,
             &Step::Did {

@@ -88,7 +88,7 @@ fn clear_below(pipes: &mut Vec<PipeState>, node: &Name, end: u32)
     }
 }
 
-/// Applies a command to the pipes, of which none has a number of `end` or more, and gives that number for the pipes behind it.
+/// Applies a command to the pipes, of which none has a number of `end` or more, and gives that number for the pipes after it.
 pub(crate) fn apply(pipes: &mut Vec<PipeState>, end: u32, op: &DeviceOp) -> u32
     requires room { vec_len pipes.old < vec_capacity pipes.old }
     requires rise { PipesRise pipes.old.items }

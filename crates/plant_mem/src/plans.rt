@@ -3,9 +3,9 @@ ghost use Rattle.std.specs.List.{list_any, find};
 ghost use Rattle.lab_base.specs.Lists.{listed};
 ghost use Rattle.plant_mem.specs.Plans.{is_poll, is_wipe, is_applying, is_hang, is_jump, is_read, waits_for_poll, counts};
 ghost use Rattle.plant_mem.specs.Readings.{counts_reading, is_due_reading, reading_counted};
-ghost use Rattle.plant_mem.specs.Plans.{is_due, fails_by, firing, jumps_by, begins_hang, hangs_by, motion_of, counted, plan_of};
+ghost use Rattle.plant_mem.specs.Plans.{is_due, fails_by, firing, jumps_by, begins_hang, hangs_by, boot_step_of, counted, plan_of};
 
-use crate::motion::Motion;
+use crate::boot_step::BootStep;
 use lab_base::Name;
 use plant::{DeviceOp, Drill, How};
 
@@ -198,16 +198,16 @@ fn hangs(plans: &[Plan], op: &DeviceOp) -> bool
     plans.iter().any(|plan| plan.hangs(op))
 }
 
-/// The motion of the boot state by the command, where it is a poll.
-pub(crate) fn motion_of(plans: &[Plan], op: &DeviceOp) -> Motion
-    ensures { result ≡ motion_of op.now plans.now }
+/// How far the command moves the boot state, where it is a poll.
+pub(crate) fn boot_step_of(plans: &[Plan], op: &DeviceOp) -> BootStep
+    ensures { result ≡ boot_step_of op.now plans.now }
 {
     if jumps(plans, op) {
-        Motion::Jumps
+        BootStep::Jumps
     } else if hangs(plans, op) {
-        Motion::Hangs
+        BootStep::Hangs
     } else {
-        Motion::Moves
+        BootStep::Moves
     }
 }
 

@@ -3,7 +3,7 @@ ghost use Rattle.std.specs.Prelude.{◌≡◌, ◌≤◌, ◌<◌, ◌+◌, slic
 ghost use Rattle.std.specs.List.{list_any};
 ghost use Rattle.std.specs.Str.{bytes_eq};
 ghost use Rattle.plant.specs.Worlds.{World, after_op};
-ghost use Rattle.plant_mem.specs.RowTables.{AreRows, entries_on, index, is_earlier, is_same, joined, left, place};
+ghost use Rattle.plant_mem.specs.RowTables.{AreRows, entries_on, index, is_earlier, is_same, joined, left, index_for};
 
 use crate::rows::Row;
 use lab_base::{Name, VlanId};
@@ -35,8 +35,8 @@ fn has(rows: &[Row], row: &Row) -> bool
 }
 
 /// How many rows at the front don't come later than a row.
-fn place(rows: &[Row], row: &Row) -> usize
-    ensures { result ≡ place row.now rows.now }
+fn index_for(rows: &[Row], row: &Row) -> usize
+    ensures { result ≡ index_for row.now rows.now }
 {
     for at in 0..rows.len() {
         if is_earlier(row, &rows[at]) {
@@ -56,7 +56,7 @@ fn join(rows: &mut Vec<Row>, row: Row)
     if has(rows, &row) {
         return;
     }
-    let at = place(rows, &row);
+    let at = index_for(rows, &row);
     rows.insert(at, row).unwrap();
 }
 

@@ -85,7 +85,7 @@ no_switch kind h =
 is_listed : (w : List ℕ × ℕ → List ℕ) (xs : List (List ℕ × ℕ)) → 1 ≤ length xs → length xs ≤ 8 → is_list (map w xs) ≡ true
 is_listed w xs some few = and_from _ _ (le-leb 1 (length (map w xs)) (omega (arith, length-map xs w))) (le-leb (length (map w xs)) 8 (omega (arith, length-map xs w)))
 
--- what a node's line has behind the name
+-- what a node's line has after the name
 abbrev behind : List (List ℕ × ℕ) → List (List ℕ × ℕ) → List (List ℕ)
 behind types features = map with_number types ++ feature_fields features
 

@@ -14,7 +14,7 @@ use Rattle.phys_lab.specs.Labs.{Lab}
 use Rattle.phys_lab.specs.Faults.{is_port_number, is_speed}
 use Rattle.phys_lab.specs.Kept.{IsLab}
 use Rattle.ptop_text.specs.declared.link.FirstEnd.TheVariants as ends
-use Rattle.ptop_text.specs.Lines.{end_of, as_port, as_iface, is_switch_of, first_parts, first_end, link_line}
+use Rattle.ptop_text.specs.Lines.{first_end_in, as_port, as_iface, is_switch_of, first_parts, first_end, link_line}
 use Rattle.ptop_text.specs.Adding.{switch_at, node_at}
 use Rattle.line_text.specs.Printing.{with_number}
 use Rattle.line_text.proofs.PartsAgain.{less, position_none, named_pair, numbered_pair, name_again, number_back, numbered_again}
@@ -103,15 +103,15 @@ speed_is kbps h = let p = and_parts (nat_le 1 kbps) (nat_le kbps 1000000000) h i
 iface_end : (lab : Lab) (i : ℕ) (node name : List ℕ) → IsNodeName lab i node → is_name name ≡ true → first_end lab (node ++ 58 ∷ name) ≡ Ok (node, ends.Iface name)
 iface_end lab i node name is named =
     ap (first_parts lab) (named_pair node name is.named named)
-    ∙ (λ j. both_of (name_again node is.named j) (end_of (is_switch_of lab (name_again node is.named j)) name))
-    ∙ (λ j. both_of (Ok node) (end_of (is_some (is.no_switch j)) name))
+    ∙ (λ j. both_of (name_again node is.named j) (first_end_in (is_switch_of lab (name_again node is.named j)) name))
+    ∙ (λ j. both_of (Ok node) (first_end_in (is_some (is.no_switch j)) name))
     ∙ (λ j. both_of (Ok node) (as_iface (name_again name named j)))
 
 port_end : (lab : Lab) (i : ℕ) (name : List ℕ) (port : ℕ) → IsSwitchName lab i name → IsPort port → first_end lab (with_number (name, port)) ≡ Ok (name, ends.Port port)
 port_end lab i name port is range =
     ap (first_parts lab) (numbered_pair name port is.named (omega (arith, range.high)))
-    ∙ (λ j. both_of (name_again name is.named j) (end_of (is_switch_of lab (name_again name is.named j)) (decimal port)))
-    ∙ (λ j. both_of (Ok name) (end_of (is_some (is.at j)) (decimal port)))
+    ∙ (λ j. both_of (name_again name is.named j) (first_end_in (is_switch_of lab (name_again name is.named j)) (decimal port)))
+    ∙ (λ j. both_of (Ok name) (first_end_in (is_some (is.at j)) (decimal port)))
     ∙ (λ j. both_of (Ok name) (as_port (number_back 1 4096 port range.low range.high (omega arith) j)))
 
 pub iface_read : (lab : Lab) (n s : ℕ) (link node name switch : List ℕ) (port kbps : ℕ) → is_name link ≡ true → IsNodeName lab n node → is_name name ≡ true → IsSwitchName lab s switch → IsPort port → IsSpeed kbps

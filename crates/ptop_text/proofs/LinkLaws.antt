@@ -1,4 +1,4 @@
--- Links by what stands behind the colon of their first end, and fields behind slices.
+-- Links by what stands after the colon of their first end, and fields after slices.
 use Rattle.std.proofs.Common.{◌≡◌, ℕ, List, ap}
 use Rattle.ptop_text.specs.declared.link.FirstEnd.{FirstEnd}
 use Rattle.ptop_text.specs.declared.link.FirstEnd.TheVariants as ends

@@ -1,4 +1,4 @@
--- The lines of a ptop text, by their fields behind the keyword.
+-- The lines of a ptop text, by their fields after the keyword.
 use Rattle.std.specs.Prelude.{◌+◌, ℕ, Bool, true, false, ◌&&◌, nat_le, List, [], ◌∷◌, length, take, drop, position, codes, Option, Some, None, is_some, is_ok, Result, Ok, Err, if◌then◌else◌}
 use Rattle.lab_base.specs.Kinds.{both_of}
 use Rattle.lab_base.specs.Parts.{name_of, number_from, all_of}
@@ -49,7 +49,7 @@ features_of fields = if is_list fields then all_of feature_of (Ok []) fields els
 abbrev pub dash_in : List (List ℕ) → Option ℕ
 dash_in fields = position (λ field. same_name field (codes "-")) fields
 
--- a node by its name, its types and, behind a lone `-`, its features
+-- a node by its name, its types and, after a lone `-`, its features
 abbrev pub as_node : Result (List ℕ × (List (List ℕ × ℕ) × List (List ℕ × ℕ))) Kind → Result Device Kind
 as_node (Ok (name, (types, features))) = Ok (devices.Node (record { name = name; types = types; features = features }))
 as_node (Err kind) = Err kind
@@ -79,7 +79,7 @@ abbrev pub device_line : List (List ℕ) → Result Device Kind
 device_line [] = Err kinds.Fields
 device_line (name ∷ fields) = if is_switch_line fields then as_switch (name_of name) else node_parts name fields (dash_in fields)
 
--- what stands behind the colon of a link's first end: a port where the part before it is a switch, else an interface
+-- what stands after the colon of a link's first end: a port where the part before it is a switch, else an interface
 abbrev pub as_port : Result ℕ Kind → Result FirstEnd Kind
 as_port (Ok port) = Ok (ends.Port port)
 as_port (Err kind) = Err kind
@@ -88,9 +88,9 @@ abbrev pub as_iface : Result (List ℕ) Kind → Result FirstEnd Kind
 as_iface (Ok name) = Ok (ends.Iface name)
 as_iface (Err kind) = Err kind
 
-abbrev pub end_of : Bool → List ℕ → Result FirstEnd Kind
-end_of true field = as_port (number_from 1 4096 field)
-end_of false field = as_iface (name_of field)
+abbrev pub first_end_in : Bool → List ℕ → Result FirstEnd Kind
+first_end_in true field = as_port (number_from 1 4096 field)
+first_end_in false field = as_iface (name_of field)
 
 abbrev pub is_switch_of : Lab → Result (List ℕ) Kind → Bool
 is_switch_of lab (Ok name) = is_some (position (same_name name) lab.switches)
@@ -98,7 +98,7 @@ is_switch_of lab (Err kind) = false
 
 abbrev pub first_parts : Lab → Option (List ℕ × List ℕ) → Result (List ℕ × FirstEnd) Kind
 first_parts lab None = Err kinds.Fields
-first_parts lab (Some parts) = both_of (name_of parts.0) (end_of (is_switch_of lab (name_of parts.0)) parts.1)
+first_parts lab (Some parts) = both_of (name_of parts.0) (first_end_in (is_switch_of lab (name_of parts.0)) parts.1)
 
 abbrev pub first_end : Lab → List ℕ → Result (List ℕ × FirstEnd) Kind
 first_end lab field = first_parts lab (pair_at 58 field)

@@ -191,7 +191,7 @@ fn as_switch(read: Result<Name, Kind>) -> DeviceRead
     }
 }
 
-/// Reads the fields of a `node` line, behind its keyword.
+/// Reads the fields of a `node` line, after its keyword.
 pub(crate) fn device_in(alloc: Global, fields: &[&[u8]]) -> Result<DeviceRead, Memory>
     ensures { IfOk result (λ read. read ≡ device_line (views fields.now)) }
 {

@@ -1,13 +1,13 @@
 // The lines of links and of the range.
 ghost use Rattle.std.specs.Prelude.{◌≡◌, ◌∷◌, [], option_map};
 ghost use Rattle.lab_base.specs.Texts.{views};
-ghost use Rattle.ptop_text.specs.Lines.{end_of, is_switch_of, first_parts, first_end, link_line, vlans_line};
+ghost use Rattle.ptop_text.specs.Lines.{first_end_in, is_switch_of, first_parts, first_end, link_line, vlans_line};
 
 use lab_base::{Kind, Name, Parts, both, name_in, number_in};
 use line_text::{numbered_short, pair_in, short_in};
 use phys_lab::LabBuilder;
 
-/// The first end of a link, behind its colon: an interface of a node, or a port of a switch.
+/// The first end of a link, after its colon: an interface of a node, or a port of a switch.
 #[derive(Clone, Copy, Drop)]
 pub(crate) enum FirstEnd {
     Port(u16),
@@ -18,7 +18,7 @@ pub(crate) enum FirstEnd {
 pub(crate) type Link = (Name, ((Name, FirstEnd), ((Name, u16), u64)));
 
 fn end_in(is_switch: bool, field: &[u8]) -> Result<FirstEnd, Kind>
-    ensures { result ≡ end_of is_switch field.now }
+    ensures { result ≡ first_end_in is_switch field.now }
 {
     if is_switch {
         match short_in(field, 1, 4_096) {
@@ -74,7 +74,7 @@ fn link_of(
     both(name_in(link), both(first_field(lab, first), ends))
 }
 
-/// Reads the fields of a `link` line, behind its keyword, over the lab so far.
+/// Reads the fields of a `link` line, after its keyword, over the lab so far.
 pub(crate) fn link_in(lab: &LabBuilder, fields: &[&[u8]]) -> Result<Link, Kind>
     ensures { result ≡ link_line lab.now (views fields.now) }
 {
@@ -88,7 +88,7 @@ pub(crate) fn link_in(lab: &LabBuilder, fields: &[&[u8]]) -> Result<Link, Kind>
     }
 }
 
-/// Reads the fields of a `vlans` line, behind its keyword.
+/// Reads the fields of a `vlans` line, after its keyword.
 pub(crate) fn vlans_in(fields: &[&[u8]]) -> Result<(u16, u16), Kind>
     ensures { result ≡ vlans_line (views fields.now) }
 {

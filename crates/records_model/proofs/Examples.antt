@@ -150,7 +150,7 @@ one_record = (0 ∷ [], record { fields = refl; size = lit< tt }, refl, (0, [], 
 its_length : journal_length one_delete [] (delete_a ∷ []) ≡ 26
 its_length = refl
 
--- behind another byte there is none, also when the side is cut to 24 bytes
+-- after another byte there is none, also when the side is cut to 24 bytes
 none_shut : Records (take 24 (head_bytes ++ 55 ∷ 3 ∷ 0 ∷ 0 ∷ 0 ∷ 3 ∷ 1 ∷ 65 ∷ 0 ∷ [])) [] []
 none_shut = (55, 3 ∷ 0 ∷ 0 ∷ 0 ∷ 3 ∷ 1 ∷ [], refl, λ e. cc e)
 

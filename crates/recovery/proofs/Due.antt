@@ -68,7 +68,7 @@ swaps_split busy es n e p at is =
     ∙ sym (flat_map-append (λ x. listed (due busy x)) (take n es) (e ∷ drop (suc n) es))
     ∙ ap (λ l. swaps_of busy l) (sym (split_at es n e at))
 
--- the experiments behind
+-- the experiments after
 tail_of : {X : Type 0} (xs : List X) (n : ℕ) → drop (suc n) xs ≡ drop 1 (drop n xs)
 tail_of xs zero = refl
 tail_of [] (suc n) = refl

@@ -29,7 +29,7 @@ use Rattle.swap_turns.specs.Legs.{Forth, Settling, commits, last_move, last_move
 use Rattle.swap_turns.specs.Running.{OpenSwap, AtWork}
 use Rattle.swap_turns.specs.Settling.{LeavesLab, OneLeaves, HasSettledOne}
 use Rattle.swap_turns.specs.Swaps.{Swap, Moves}
-use Rattle.swap_turns.specs.Telling.{IsProgress, IsStop, end_of}
+use Rattle.swap_turns.specs.Telling.{IsProgress, IsStop, over_of}
 use Rattle.swap_turns.specs.Turning.{Outcome}
 use Rattle.swap_turns.specs.Turning as turning
 use Rattle.swap_turns.proofs.Beginning.{settling_open, runs_from_now}
@@ -110,7 +110,7 @@ module _ (t : Texts) (s : LabState) (exp : List ℕ) (p : Swap) (named : p.name 
         (subst (λ q. moved s (last_move q Settling) ≡ Some x) at.0 g.turn.0.1.moves)
 
   -- its last record can follow
-  pub can_end_by : Sane s → Moves p s → (end : Progress) → HasFinished t s (settling p) before now j k (λ at outcome. IsProgress at end outcome) → CanEndBy s exp (end_of end)
+  pub can_end_by : Sane s → Moves p s → (end : Progress) → HasFinished t s (settling p) before now j k (λ at outcome. IsProgress at end outcome) → CanEndBy s exp (over_of end)
   can_end_by sane moves (Ended ended) f =
       let can = can_end p Settling moves.is_swap tt in
       (state_by p s moves.exp (is_none p.new), as_ending s p.name exp (is_none p.new) ended.committed _ named (committed_is ended f) (gives_by (is_none p.new) p s sane moves can))
@@ -159,7 +159,7 @@ module _ (t : Texts) (s : LabState) (exp : List ℕ) (p : Swap) (named : p.name 
         )
 
     -- IT IS OVER, for the lab after it
-    pub over_as : (end : Progress) → HasFinished t s (settling p) before now j k (λ at outcome. IsProgress at end outcome) → EndsBy s exp (end_of end) after → IsFinishedAs t s p before now j k after end
+    pub over_as : (end : Progress) → HasFinished t s (settling p) before now j k (λ at outcome. IsProgress at end outcome) → EndsBy s exp (over_of end) after → IsFinishedAs t s p before now j k after end
     over_as (Ended ended) f ends = by_ended ended f ends
     over_as More f ends = absurd (subst IsOver f.is_told f.over)
     over_as (Troubled what) f ends = absurd (subst IsOver f.is_told.2 f.over)
@@ -215,7 +215,7 @@ answer_stops (Stuck (whats.Unlawful node from to)) result is = (λ h. absurd h, 
 answer_stops (Stuck whats.Journal) result is = (λ h. absurd h, λ h. plant_not_stopped result is h)
 answer_stops Stopped result is = (λ h. is, λ h. tt)
 
--- memory is not wanting behind the plan
+-- memory is not wanting after the plan
 pub answer_of_memory : (end : Progress) (result : Result One SettleFault) → IsAnswerOf end result → IsErrOf result faults.Memory → ⊥
 answer_of_memory (Ended ended) result is h = ok_not _ _ (sym is ∙ h)
 answer_of_memory More result is h = absurd is

@@ -44,7 +44,7 @@ moves_now s n busy e p differ swaps at is short =
       moving = d.2;
     }
 
--- the experiments behind are as they were
+-- the experiments after are as they were
 rest_by : (mid after : LabState) (n : ℕ) (e : Experiment) (p : Swap) → AllDiffer (map (λ x. x.name) mid.experiments) → slice_get mid.experiments n ≡ Some e → p.name ≡ e.name → EndsOne mid p.name after → drop (n + 1) after.experiments ≡ drop (n + 1) mid.experiments
 rest_by mid after n e p differ at named x =
     ap (drop (n + 1)) (x.is ∙ ap (λ m. replace m x.now mid.experiments) named) ∙ rest_kept mid.experiments n e x.now differ at

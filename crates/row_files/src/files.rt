@@ -1,40 +1,40 @@
 //! Files.
 use lab_base::Kind;
-use row_words::Untold;
+use row_words::RowFault;
 use std::alloc::Global;
 use std::{fs, str};
 
 /// The letters that bytes are.
-pub fn letters_in(alloc: Global, bytes: &[u8]) -> Result<String, Untold> {
+pub fn letters_in(alloc: Global, bytes: &[u8]) -> Result<String, RowFault> {
     match str::from_utf8(bytes) {
         Ok(letters) => Ok(String::from_str(alloc, letters)?),
-        Err(_) => Err(Untold::Word(Kind::Word)),
+        Err(_) => Err(RowFault::Word(Kind::Word)),
     }
 }
 
 /// The bytes of a file.
-pub fn bytes_in(rt: &HostRuntime, file: &str) -> Result<Vec<u8>, Untold> {
+pub fn bytes_in(rt: &HostRuntime, file: &str) -> Result<Vec<u8>, RowFault> {
     match fs::read(rt, file) {
         Ok(bytes) => Ok(bytes),
-        Err(_) => Err(Untold::Word(Kind::Missing)),
+        Err(_) => Err(RowFault::Word(Kind::Missing)),
     }
 }
 
 /// The text of a file.
-pub fn text_in(rt: &HostRuntime, file: &str) -> Result<String, Untold> {
+pub fn text_in(rt: &HostRuntime, file: &str) -> Result<String, RowFault> {
     match fs::read_to_string(rt, file) {
         Ok(text) => Ok(text),
-        Err(_) => Err(Untold::Word(Kind::Missing)),
+        Err(_) => Err(RowFault::Word(Kind::Missing)),
     }
 }
 
 /// The script of a file, which the row names without its ending.
-pub fn script_of(rt: &HostRuntime, file: &str) -> Result<String, Untold> {
+pub fn script_of(rt: &HostRuntime, file: &str) -> Result<String, RowFault> {
     text_in(rt, format!(in rt.alloc(); "{file}.lab")?.as_str())
 }
 
-/// The scripts of files, one behind another.
-pub fn scripts_of(rt: &HostRuntime, files: &[&str]) -> Result<String, Untold> {
+/// The scripts of files, one after another.
+pub fn scripts_of(rt: &HostRuntime, files: &[&str]) -> Result<String, RowFault> {
     let mut scripts = String::new(rt.alloc());
     for file in files {
         scripts.push_str(script_of(rt, file)?.as_str())?;
@@ -43,12 +43,12 @@ pub fn scripts_of(rt: &HostRuntime, files: &[&str]) -> Result<String, Untold> {
 }
 
 /// The ends that runs may come to: those of the files whose names stand between commas.
-pub fn ends_of(rt: &HostRuntime, names: &str) -> Result<Vec<String>, Untold> {
+pub fn ends_of(rt: &HostRuntime, names: &str) -> Result<Vec<String>, RowFault> {
     let mut ends = Vec::new(rt.alloc());
     for name in names.split(',') {
         let end = text_in(rt, format!(in rt.alloc(); "{name}.end")?.as_str())?;
         if ends.push(end).is_err() {
-            return Err(Untold::Memory);
+            return Err(RowFault::Memory);
         }
     }
     Ok(ends)
@@ -60,9 +60,9 @@ pub fn is_there(rt: &HostRuntime, file: &str) -> bool {
 }
 
 /// Removes a folder, if it is there.
-pub fn remove(rt: &HostRuntime, folder: &str) -> Result<(), Untold> {
+pub fn remove(rt: &HostRuntime, folder: &str) -> Result<(), RowFault> {
     match fs::exists(rt, folder) {
-        Ok(true) if fs::remove_dir_all(rt, folder).is_err() => Err(Untold::Plant),
+        Ok(true) if fs::remove_dir_all(rt, folder).is_err() => Err(RowFault::Plant),
         _ => Ok(()),
     }
 }

@@ -1,9 +1,9 @@
 //! Marked lines of scripts.
 use lab_base::Kind;
-use row_words::Untold;
+use row_words::RowFault;
 use std::alloc::{AllocError, Global};
 
-/// A script with marked lines: what stands before them, these lines, and what stands behind them. A line `@` stands before and behind the lines.
+/// A script with marked lines: what stands before them, these lines, and what stands after them. A line `@` stands before and after the lines.
 #[derive(Clone, Copy)]
 pub struct Marked<'a> {
     pub before: &'a str,
@@ -12,9 +12,11 @@ pub struct Marked<'a> {
 }
 
 impl<'a> Marked<'a> {
-    pub fn of(script: &'a str) -> Result<Marked<'a>, Untold> {
-        let (before, rest) = script.split_once("@\n").ok_or(Untold::Word(Kind::Missing))?;
-        let (lines, behind) = rest.split_once("@\n").ok_or(Untold::Word(Kind::Missing))?;
+    pub fn of(script: &'a str) -> Result<Marked<'a>, RowFault> {
+        let (before, rest) = script
+            .split_once("@\n")
+            .ok_or(RowFault::Word(Kind::Missing))?;
+        let (lines, behind) = rest.split_once("@\n").ok_or(RowFault::Word(Kind::Missing))?;
         Ok(Marked {
             before,
             lines,

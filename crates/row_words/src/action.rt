@@ -1,5 +1,5 @@
 //! The words of an action.
-use crate::Untold;
+use crate::RowFault;
 use lab_base::{Kind, Name, VlanId};
 use plant::Side;
 
@@ -28,11 +28,11 @@ impl<'a> Words<'a> {
         self.rest
     }
 
-    pub fn name(&mut self) -> Result<Name, Untold> {
+    pub fn name(&mut self) -> Result<Name, RowFault> {
         Ok(Name::read(self.word().as_bytes())?)
     }
 
-    pub fn number(&mut self) -> Result<u32, Untold> {
+    pub fn number(&mut self) -> Result<u32, RowFault> {
         match self.word() {
             "#" => Ok(self.nth),
             word => Ok(word.parse()?),
@@ -40,19 +40,19 @@ impl<'a> Words<'a> {
     }
 
     /// The number of a port, or of a pipe.
-    pub fn short(&mut self) -> Result<u16, Untold> {
+    pub fn short(&mut self) -> Result<u16, RowFault> {
         Ok(self.word().parse()?)
     }
 
-    pub fn vlan(&mut self) -> Result<VlanId, Untold> {
+    pub fn vlan(&mut self) -> Result<VlanId, RowFault> {
         Ok(VlanId(self.short()?))
     }
 
-    pub fn side(&mut self) -> Result<Side, Untold> {
+    pub fn side(&mut self) -> Result<Side, RowFault> {
         match self.word() {
             "A" => Ok(Side::A),
             "B" => Ok(Side::B),
-            _ => Err(Untold::Word(Kind::Word)),
+            _ => Err(RowFault::Word(Kind::Word)),
         }
     }
 }

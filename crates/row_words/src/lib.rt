@@ -2,11 +2,11 @@
 #![tactic(auto)]
 
 mod action;
-mod untold;
+mod row_fault;
 mod words;
 
 pub use action::Words;
-pub use untold::Untold;
+pub use row_fault::RowFault;
 pub use words::{
     Halves, at_bar, number, number_at, pair_of, parts_of, push_answer, push_number, push_numbers,
     text_of,

@@ -1,10 +1,10 @@
 //! Words of rows.
-use crate::Untold;
+use crate::RowFault;
 use lab_base::{Kind, Memory, Parts, Text, parted};
 use line_text::{field_at, short_in};
 use std::alloc::Global;
 
-/// The byte that a letter behind a backslash stands for.
+/// The byte that a letter after a backslash stands for.
 fn meant(letter: u8) -> u8 {
     match letter {
         b'n' => b'\n',
@@ -37,11 +37,11 @@ pub fn parts_of(alloc: Global, word: &[u8]) -> Result<Vec<&[u8]>, Memory> {
     Ok(word.split(|byte| *byte == b':').collect(alloc)?)
 }
 
-/// The parts of a word before its first colon and behind it.
-pub fn pair_of(word: &[u8]) -> Result<Parts<'_>, Untold> {
+/// The parts of a word before its first colon and after it.
+pub fn pair_of(word: &[u8]) -> Result<Parts<'_>, RowFault> {
     match parted(word, b':') {
         Some(parts) => Ok(parts),
-        None => Err(Untold::Word(Kind::Fields)),
+        None => Err(RowFault::Word(Kind::Fields)),
     }
 }
 
@@ -55,14 +55,14 @@ pub fn number_at(words: &[&[u8]], n: usize) -> Result<u16, Kind> {
     number(field_at(words, n))
 }
 
-/// The words before a bar and behind it.
+/// The words before a bar and after it.
 #[derive(Clone, Copy)]
 pub struct Halves<'a> {
     pub before: &'a [&'a [u8]],
     pub behind: &'a [&'a [u8]],
 }
 
-/// The words before the bar, if there is one, and behind it.
+/// The words before the bar, if there is one, and after it.
 pub fn at_bar<'a>(words: &'a [&'a [u8]]) -> Halves<'a> {
     for (at, word) in words.iter().enumerate() {
         if word.first() == Some(&b'|') {

@@ -6,16 +6,16 @@ use layer_rows::{bytes_of, done_word, push_spelled, told_of_plant};
 use plant::Plant;
 use plant_file::FileLab;
 use row_files::letters_in;
-use row_words::{Untold, Words};
+use row_words::{RowFault, Words};
 use std::alloc::Global;
 use std::fmt::Write;
 
-/// Adds the line that a reader shows, with a `=` behind it.
+/// Adds the line that a reader shows, with a `=` after it.
 fn add_shown(
     out: &mut String,
     reader: &mut LineReader,
     source: &mut MemSource,
-) -> Result<(), Untold> {
+) -> Result<(), RowFault> {
     if let Ok(Some(line)) = reader.peek(source) {
         push_spelled(out, line.bytes())?;
         out.push('=')?;
@@ -23,8 +23,8 @@ fn add_shown(
     Ok(())
 }
 
-/// The lines that a reader takes of these bytes, each behind what it shows of it twice before, with a `|` behind each.
-pub fn lines(alloc: Global, spelled: &str) -> Result<String, Untold> {
+/// The lines that a reader takes of these bytes, each after what it shows of it twice before, with a `|` after each.
+pub fn lines(alloc: Global, spelled: &str) -> Result<String, RowFault> {
     let bytes = bytes_of(alloc, spelled)?;
     let mut source = MemSource::new(alloc, bytes.bytes(), &[])?;
     let mut reader = LineReader::new(alloc)?;
@@ -43,7 +43,7 @@ pub fn lines(alloc: Global, spelled: &str) -> Result<String, Untold> {
 }
 
 /// The answers of writes to a sink with room for so many bytes, whose write of that number fails, and what it has then.
-pub fn sink(alloc: Global, room: usize, fails: u32, pieces: &[&str]) -> Result<String, Untold> {
+pub fn sink(alloc: Global, room: usize, fails: u32, pieces: &[&str]) -> Result<String, RowFault> {
     let mut sink = MemSink::new(alloc, room, &[fails])?;
     let mut out = String::new(alloc);
     for piece in pieces {
@@ -56,7 +56,7 @@ pub fn sink(alloc: Global, room: usize, fails: u32, pieces: &[&str]) -> Result<S
 }
 
 /// How many bytes, commands and virtual nodes the script of a seed has.
-fn add_sizes(out: &mut String, script: &str) -> Result<(), Untold> {
+fn add_sizes(out: &mut String, script: &str) -> Result<(), RowFault> {
     let (mut commands, mut nodes) = (0u32, 0u32);
     for line in script.lines() {
         let (word, rest) = line.split_once(' ').unwrap_or((line, ""));
@@ -76,7 +76,7 @@ fn add_sizes(out: &mut String, script: &str) -> Result<(), Untold> {
 }
 
 /// How much the script of a seed has, and its lines of these numbers, from 0.
-pub fn drawn(alloc: Global, seed: u64, numbers: &[&str]) -> Result<String, Untold> {
+pub fn drawn(alloc: Global, seed: u64, numbers: &[&str]) -> Result<String, RowFault> {
     let script = generate(alloc, seed)?;
     let script = letters_in(alloc, script.bytes())?;
     let mut out = String::new(alloc);
@@ -95,7 +95,7 @@ fn told_of_side(
     plant: &mut FileLab<HostRuntime>,
     kind: &str,
     words: &mut Words<'_>,
-) -> Result<bool, Untold> {
+) -> Result<bool, RowFault> {
     let side = match kind {
         "write" | "cut" | "part" => words.side()?,
         _ => return Ok(false),
@@ -126,13 +126,13 @@ fn act(
     alloc: Global,
     plant: &mut FileLab<HostRuntime>,
     action: &str,
-) -> Result<(), Untold> {
+) -> Result<(), RowFault> {
     let mut words = Words::new(action, 0);
     let kind = words.word();
     if !told_of_side(out, alloc, plant, kind, &mut words)?
         && !told_of_plant(out, plant, kind, &mut words)?
     {
-        return Err(Untold::Word(Kind::Unknown));
+        return Err(RowFault::Word(Kind::Unknown));
     }
     Ok(out.push('\n')?)
 }
@@ -143,7 +143,7 @@ fn act_all(
     alloc: Global,
     plants: (&mut FileLab<HostRuntime>, &mut FileLab<HostRuntime>),
     actions: &str,
-) -> Result<(), Untold> {
+) -> Result<(), RowFault> {
     let (plant, other) = plants;
     for action in actions.split(';') {
         match action.trim().strip_prefix("other ") {
@@ -155,7 +155,7 @@ fn act_all(
 }
 
 /// The outputs of actions over a plant in the files of a folder.
-pub fn calls(rt: &HostRuntime, folder: &str, actions: &str) -> Result<String, Untold> {
+pub fn calls(rt: &HostRuntime, folder: &str, actions: &str) -> Result<String, RowFault> {
     let mut plant = FileLab::new(rt, folder)?;
     let mut other = FileLab::new(rt, folder)?;
     let mut out = String::new(rt.alloc());

@@ -5,7 +5,7 @@ use crate::drills::{Drill, FAIL_DISK, STOP_ALL, STOP_NONE, STOP_TORN, drilled};
 use crate::run::{blank, plainly, run};
 use lab_top::Status;
 use plant_mem::MemLab;
-use row_words::Untold;
+use row_words::RowFault;
 use std::alloc::{AllocError, Global};
 use std::fmt::Write;
 
@@ -17,7 +17,7 @@ pub struct Cut<'a> {
     pub ends: &'a [String],
 }
 
-/// The scripts before a drill and behind it, the command first, and the end where none cuts the command.
+/// The scripts before a drill and after it, the command first, and the end where none cuts the command.
 #[derive(Clone, Copy)]
 struct Case<'a> {
     cut: Cut<'a>,
@@ -25,13 +25,13 @@ struct Case<'a> {
     whole: &'a str,
 }
 
-/// Commands behind a failure: they recover what is stuck, or are told of it twice before.
+/// Commands after a failure: they recover what is stuck, or are told of it twice before.
 pub const RECOVERS: &str = "recover\n";
 
 pub const TELLS: &str = "status\nstatus\nrecover\n";
 
-/// The end of a run that reads its script to the end: its output, and behind it the states of the devices.
-fn left_by(alloc: Global, script: &str, last: &mut Option<MemLab>) -> Result<String, Untold> {
+/// The end of a run that reads its script to the end: its output, and after it the states of the devices.
+fn left_by(alloc: Global, script: &str, last: &mut Option<MemLab>) -> Result<String, RowFault> {
     let plant = blank(alloc, last)?;
     let ran = run(alloc, plainly(script), plant)?;
     let mut left = ran.output;
@@ -59,7 +59,7 @@ fn cut_by(
     drill: Drill,
     last: &mut Option<MemLab>,
     out: &mut String,
-) -> Result<u32, Untold> {
+) -> Result<u32, RowFault> {
     for nth in 1..100u32 {
         let script = drilled(alloc, case.cut.before, drill, nth, case.behind)?;
         let left = left_by(alloc, script.as_str(), last)?;
@@ -96,7 +96,7 @@ fn failures(
     case: Case<'_>,
     last: &mut Option<MemLab>,
     out: &mut String,
-) -> Result<u32, Untold> {
+) -> Result<u32, RowFault> {
     let mut sum = 0u32;
     for before in DEVICES {
         for behind in HOWS {
@@ -112,7 +112,7 @@ fn add_stops(
     alloc: Global,
     case: Case<'_>,
     last: &mut Option<MemLab>,
-) -> Result<(), Untold> {
+) -> Result<(), RowFault> {
     let none = cut_by(alloc, case, STOP_NONE, last, out)?;
     let all = cut_by(alloc, case, STOP_ALL, last, out)?;
     let torn = cut_by(alloc, case, STOP_TORN, last, out)?;
@@ -126,7 +126,7 @@ fn add_faults(
     case: Case<'_>,
     calls: u32,
     last: &mut Option<MemLab>,
-) -> Result<(), Untold> {
+) -> Result<(), RowFault> {
     let failures = failures(alloc, case, last, out)?;
     let count = cut_by(alloc, case, FAIL_DISK, last, out)?;
     Ok(write!(
@@ -136,14 +136,14 @@ fn add_faults(
     )?)
 }
 
-/// Tells how many stops cut the command, or how many failures, where these commands stand behind it and calls of the disk are counted up to some.
+/// Tells how many stops cut the command, or how many failures, where these commands stand after it and calls of the disk are counted up to some.
 pub fn add_cuts(
     out: &mut String,
     alloc: Global,
     cut: Cut<'_>,
     then: Option<(&str, u32)>,
     last: &mut Option<MemLab>,
-) -> Result<(), Untold> {
+) -> Result<(), RowFault> {
     let (recovers, calls) = then.unwrap_or(("", 0));
     let behind = format!(in alloc; "{}{recovers}status\nshow A\n", cut.command)?;
     let script = drilled(alloc, cut.before, STOP_NONE, 1_000_000, behind.as_str())?;
@@ -170,7 +170,7 @@ fn add_drills(script: &mut String, drills: &[&str]) -> Result<(), AllocError> {
     script.push('\n')
 }
 
-/// Adds the rest of the script of an order, behind that which opens the swaps. It plans these drills, turns a swap for each letter and finishes each
+/// Adds the rest of the script of an order, after that which opens the swaps. It plans these drills, turns a swap for each letter and finishes each
 /// swap. Then it recovers what is stuck, and once more what a last failure left stuck.
 fn add_order(script: &mut String, letters: &str, drills: &[&str]) -> Result<(), AllocError> {
     add_drills(script, drills)?;
@@ -188,7 +188,7 @@ pub fn order(
     ends: &[String],
     drills: &[&str],
     last: &mut Option<MemLab>,
-) -> Result<String, Untold> {
+) -> Result<String, RowFault> {
     let mut script = opened;
     add_order(&mut script, letters, drills)?;
     let left = left_by(alloc, script.as_str(), last)?;

@@ -1,4 +1,4 @@
-//! The commands that devices obeyed in a run, and their state behind it.
+//! The commands that devices obeyed in a run, and their state after it.
 use lab_base::{Boot, Name};
 use layer_rows::{boot_word, letters};
 use plant::{Answer, DeviceOp, Fault, Step};

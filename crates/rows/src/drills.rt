@@ -1,9 +1,9 @@
 //! Drills by number.
 use lab_base::Kind;
-use row_words::Untold;
+use row_words::RowFault;
 use std::alloc::{AllocError, Global};
 
-/// A drill but for its number: the words before that and behind it.
+/// A drill but for its number: the words before that and after it.
 pub type Drill = (&'static str, &'static str);
 
 pub const FAIL_DISK: Drill = ("fail disk ", "\n");
@@ -15,7 +15,7 @@ pub const STOP_ALL: Drill = ("stop ", " all\n");
 pub const STOP_TORN: Drill = ("stop ", " torn\n");
 
 /// A drill of the disk, a stop by what it leaves, or one of the readings of a switch or a machine.
-pub fn drill_named(word: &str) -> Result<Drill, Untold> {
+pub fn drill_named(word: &str) -> Result<Drill, RowFault> {
     match word {
         "disk" => Ok(FAIL_DISK),
         "none" => Ok(STOP_NONE),
@@ -23,7 +23,7 @@ pub fn drill_named(word: &str) -> Result<Drill, Untold> {
         "torn" => Ok(STOP_TORN),
         "s1" => Ok(("fail s1 ", " read\n")),
         "pc1" => Ok(("fail pc1 ", " read\n")),
-        _ => Err(Untold::Word(Kind::Unknown)),
+        _ => Err(RowFault::Word(Kind::Unknown)),
     }
 }
 

@@ -4,7 +4,7 @@ use crate::run::{blank, ended, plainly, run, told};
 use lab_base::Kind;
 use plant_mem::MemLab;
 use row_files::Marked;
-use row_words::Untold;
+use row_words::RowFault;
 use std::alloc::Global;
 use std::fmt::Write;
 
@@ -15,8 +15,10 @@ fn told_at(
     drill: Drill,
     nth: u32,
     last: &mut Option<MemLab>,
-) -> Result<String, Untold> {
-    let (before, behind) = script.split_once("@\n").ok_or(Untold::Word(Kind::Missing))?;
+) -> Result<String, RowFault> {
+    let (before, behind) = script
+        .split_once("@\n")
+        .ok_or(RowFault::Word(Kind::Missing))?;
     let script = drilled(alloc, before, drill, nth, behind)?;
     told(alloc, script.as_str(), last)
 }
@@ -28,7 +30,7 @@ pub fn numbers(
     drill: Drill,
     most: u32,
     last: &mut Option<MemLab>,
-) -> Result<String, Untold> {
+) -> Result<String, RowFault> {
     let mut out = String::new(alloc);
     let mut first = 1;
     let mut same = told_at(alloc, script, drill, 1, last)?;
@@ -49,7 +51,7 @@ pub fn turns(
     script: &str,
     most: u32,
     last: &mut Option<MemLab>,
-) -> Result<String, Untold> {
+) -> Result<String, RowFault> {
     let marked = Marked::of(script)?;
     let mut out = String::from_str(alloc, "steps")?;
     for count in 0..=most {
@@ -62,13 +64,13 @@ pub fn turns(
     Ok(out)
 }
 
-/// The output of a script with its marked lines so often, and nothing behind them.
+/// The output of a script with its marked lines so often, and nothing after them.
 fn written(
     alloc: Global,
     marked: &Marked<'_>,
     count: u32,
     last: &mut Option<MemLab>,
-) -> Result<String, Untold> {
+) -> Result<String, RowFault> {
     let begun = Marked {
         behind: "",
         ..*marked
@@ -77,9 +79,10 @@ fn written(
     Ok(run(alloc, plainly(script.as_str()), blank(alloc, last)?)?.output)
 }
 
-/// The rest of an output behind another one.
-fn behind<'a>(told: &'a str, before: &str) -> Result<&'a str, Untold> {
-    told.strip_prefix(before).ok_or(Untold::Word(Kind::Missing))
+/// The rest of an output after another one.
+fn behind<'a>(told: &'a str, before: &str) -> Result<&'a str, RowFault> {
+    told.strip_prefix(before)
+        .ok_or(RowFault::Word(Kind::Missing))
 }
 
 /// The output of marked lines that are there so often and write the same each time: it is told once, with their number.
@@ -88,7 +91,7 @@ pub fn long(
     script: &str,
     count: u32,
     last: &mut Option<MemLab>,
-) -> Result<String, Untold> {
+) -> Result<String, RowFault> {
     let marked = Marked::of(script)?;
     let before = written(alloc, &marked, 0, last)?;
     let once = written(alloc, &marked, 1, last)?;

@@ -3,7 +3,7 @@ use crate::run::blank;
 use lab_base::Name;
 use plant::{DeviceOp, Plant, Side};
 use plant_mem::MemLab;
-use row_words::Untold;
+use row_words::RowFault;
 use std::alloc::Global;
 
 /// The bytes of a write.
@@ -32,19 +32,19 @@ fn writes_taken(plant: &mut MemLab, bytes: &[u8]) -> u32 {
     CALLS
 }
 
-/// How many commands a plant takes from its first start, and how many writes of the piece. Then the same behind a restart each.
-pub fn room(alloc: Global, last: &mut Option<MemLab>) -> Result<String, Untold> {
+/// How many commands a plant takes from its first start, and how many writes of the piece. Then the same after a restart each.
+pub fn room(alloc: Global, last: &mut Option<MemLab>) -> Result<String, RowFault> {
     let node = Name::read(b"n")?;
     let piece = vec![in alloc; 7u8; PIECE]?;
     let steps = steps_taken(blank(alloc, last)?, node);
     let plant = blank(alloc, last)?;
     let writes = writes_taken(plant, &piece);
     plant.restart()?;
-    let steps_behind = steps_taken(plant, node);
+    let steps_after = steps_taken(plant, node);
     plant.restart()?;
-    let writes_behind = writes_taken(plant, &piece);
+    let writes_after = writes_taken(plant, &piece);
     let out = format!(in alloc;
-        "{steps} steps, {writes} writes\n{steps_behind} steps, {writes_behind} writes\n"
+        "{steps} steps, {writes} writes\n{steps_after} steps, {writes_after} writes\n"
     )?;
     Ok(out)
 }

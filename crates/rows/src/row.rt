@@ -9,8 +9,8 @@
 //! side A [B] FILE        over a plant whose side A has the bytes of a file, and side B those of another
 //! sides                  how long both sides are that the row before left, and what is in them where that is little
 //! like FILE              whether its side A has the bytes of the file, and its side B none
-//! room                   how many commands and writes of 65,536 bytes a plant in memory takes before it stops, at first and behind a restart
-//! lines BYTES            the lines that a reader takes of these bytes, each behind what it shows of it twice before
+//! room                   how many commands and writes of 65,536 bytes a plant in memory takes before it stops, at first and after a restart
+//! lines BYTES            the lines that a reader takes of these bytes, each after what it shows of it twice before
 //! sink ROOM N PIECES     the answers of writes to a sink with room for so many bytes, whose N-th write fails, and what it has then
 //! drawn SEED N..         how much the script of a seed has, and its lines of these numbers, from 0
 //! calls FOLDER ACTIONS   calls of a plant in the files of a folder, or of another such plant: those actions of `layer_rows` that any plant takes, and
@@ -22,12 +22,12 @@
 //! repeats LAST FILE      the steps where the marked lines of the script stand 0, 1, .. LAST times
 //! long COUNT FILE        what is written where they stand so often
 //! each_drill LAST DRILL FILE     what is written where the drill of number 1, 2, .. LAST stands at the mark
-//! cuts CALLS ENDS FILE.. how many numbers of each drill cut the command of the last file, behind the others, each leading to one of the ends
-//! reported CALLS ENDS FILE..     the same of failures, where `status` stands twice behind the command, and then `recover`
+//! cuts CALLS ENDS FILE.. how many numbers of each drill cut the command of the last file, after the others, each leading to one of the ends
+//! reported CALLS ENDS FILE..     the same of failures, where `status` stands twice after the command, and then `recover`
 //! order LETTERS END [DRILL , ..]         whether swaps that are turned in that order lead to the end
 //! ```
 //!
-//! A blank plant is one in which nothing has happened. Lines are marked by a line `@` before and one behind them, and a place by one.
+//! A blank plant is one in which nothing has happened. Lines are marked by a line `@` before and one after them, and a place by one.
 use crate::calls::{calls, drawn, lines, sink};
 use crate::cuts::{Cut, RECOVERS, TELLS, add_cuts, order};
 use crate::devices::{add_did, add_held};
@@ -42,12 +42,12 @@ use layer_rows::yes_or_no;
 use plant::Side;
 use plant_mem::MemLab;
 use row_files::{bytes_in, ends_of, is_there, remove, script_of, scripts_of, text_in};
-use row_words::Untold;
+use row_words::RowFault;
 use std::fmt::Write;
 
 /// The plant that the row before left.
-fn kept(last: &mut Option<MemLab>) -> Result<&mut MemLab, Untold> {
-    last.as_mut().ok_or(Untold::Plant)
+fn kept(last: &mut Option<MemLab>) -> Result<&mut MemLab, RowFault> {
+    last.as_mut().ok_or(RowFault::Plant)
 }
 
 /// Runs a script by words over the folder that they choose, or else over a blank plant.
@@ -56,7 +56,7 @@ fn script(
     file: &str,
     words: &[&str],
     last: &mut Option<MemLab>,
-) -> Result<String, Untold> {
+) -> Result<String, RowFault> {
     let script = script_of(rt, file)?;
     let words = words_of(rt.alloc(), words)?;
     let given = Given {
@@ -76,7 +76,7 @@ fn faulty(
     file: &str,
     words: &[&str],
     last: &mut Option<MemLab>,
-) -> Result<String, Untold> {
+) -> Result<String, RowFault> {
     let script = script_of(rt, file)?;
     let words = words_of(rt.alloc(), words)?;
     let [read, write, room] = numbers;
@@ -96,14 +96,14 @@ fn steps(
     file: &str,
     words: &[&str],
     last: &mut Option<MemLab>,
-) -> Result<String, Untold> {
+) -> Result<String, RowFault> {
     let mut out = faulty(rt, ["0", "0", "65536"], file, words, last)?;
     writeln!(out, "steps {}", kept(last)?.trace().len())?;
     Ok(out)
 }
 
 /// Runs a script over a blank plant, and tells the commands and the states of its devices.
-fn devices(rt: &HostRuntime, file: &str, last: &mut Option<MemLab>) -> Result<String, Untold> {
+fn devices(rt: &HostRuntime, file: &str, last: &mut Option<MemLab>) -> Result<String, RowFault> {
     let mut out = faulty(rt, ["0", "0", "65536"], file, &[], last)?;
     let plant = kept(last)?;
     add_did(&mut out, rt.alloc(), plant)?;
@@ -112,14 +112,14 @@ fn devices(rt: &HostRuntime, file: &str, last: &mut Option<MemLab>) -> Result<St
 }
 
 /// Runs a script over the plant that the row before left.
-fn again(rt: &HostRuntime, file: &str, last: &mut Option<MemLab>) -> Result<String, Untold> {
+fn again(rt: &HostRuntime, file: &str, last: &mut Option<MemLab>) -> Result<String, RowFault> {
     let script = script_of(rt, file)?;
     ended(rt.alloc(), plainly(script.as_str()), kept(last)?)
 }
 
 /// Puts a plant whose sides have the bytes of these files in the place of the last one: side A those of the first, and side B those of the second,
 /// if there is one.
-fn fill_both(rt: &HostRuntime, files: &[&str], last: &mut Option<MemLab>) -> Result<(), Untold> {
+fn fill_both(rt: &HostRuntime, files: &[&str], last: &mut Option<MemLab>) -> Result<(), RowFault> {
     let plant = blank(rt.alloc(), last)?;
     for (n, file) in files.iter().enumerate() {
         let side = if n == 0 { Side::A } else { Side::B };
@@ -128,7 +128,7 @@ fn fill_both(rt: &HostRuntime, files: &[&str], last: &mut Option<MemLab>) -> Res
     Ok(())
 }
 
-/// Cuts the command of the last file by stops and failures, behind which what is stuck is recovered; or by failures alone, of which is told twice
+/// Cuts the command of the last file by stops and failures, after which what is stuck is recovered; or by failures alone, of which is told twice
 /// before.
 fn cuts(
     rt: &HostRuntime,
@@ -137,7 +137,7 @@ fn cuts(
     names: [&str; 2],
     others: &[&str],
     last: &mut Option<MemLab>,
-) -> Result<String, Untold> {
+) -> Result<String, RowFault> {
     let ends = ends_of(rt, names[0])?;
     let before = scripts_of(rt, others)?;
     let command = script_of(rt, names[1])?;
@@ -162,7 +162,7 @@ fn ordered(
     end: &str,
     drills: &[&str],
     last: &mut Option<MemLab>,
-) -> Result<String, Untold> {
+) -> Result<String, RowFault> {
     let ends = ends_of(rt, end)?;
     order(
         rt.alloc(),
@@ -179,7 +179,7 @@ fn told_alone(
     rt: &HostRuntime,
     words: &[&str],
     last: &mut Option<MemLab>,
-) -> Result<String, Untold> {
+) -> Result<String, RowFault> {
     match words {
         ["room"] => room(rt.alloc(), last),
         ["lines"] => lines(rt.alloc(), ""),
@@ -195,7 +195,7 @@ fn told_alone(
             remove(rt, folder)?;
             Ok(String::new(rt.alloc()))
         }
-        _ => Err(Untold::Word(Kind::Unknown)),
+        _ => Err(RowFault::Word(Kind::Unknown)),
     }
 }
 
@@ -204,7 +204,7 @@ fn told_of_numbers(
     rt: &HostRuntime,
     words: &[&str],
     last: &mut Option<MemLab>,
-) -> Result<String, Untold> {
+) -> Result<String, RowFault> {
     match words {
         ["repeats", most, file] => {
             turns(
@@ -244,7 +244,11 @@ fn told_of_numbers(
 }
 
 /// The output of a row of these words, over the plant that the row before left, or over one that is left to the next row.
-fn told_of(rt: &HostRuntime, words: &[&str], last: &mut Option<MemLab>) -> Result<String, Untold> {
+fn told_of(
+    rt: &HostRuntime,
+    words: &[&str],
+    last: &mut Option<MemLab>,
+) -> Result<String, RowFault> {
     match words {
         ["script", file, words @ ..] => script(rt, file, words, last),
         ["steps", file, words @ ..] => steps(rt, file, words, last),
@@ -264,7 +268,7 @@ fn told_of(rt: &HostRuntime, words: &[&str], last: &mut Option<MemLab>) -> Resul
 }
 
 /// The output of a row.
-pub fn told(rt: &HostRuntime, line: &str, last: &mut Option<MemLab>) -> Result<String, Untold> {
+pub fn told(rt: &HostRuntime, line: &str, last: &mut Option<MemLab>) -> Result<String, RowFault> {
     if let Some((folder, actions)) = line
         .strip_prefix("calls ")
         .and_then(|rest| rest.split_once(' '))

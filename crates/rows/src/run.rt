@@ -4,7 +4,7 @@ use lab_top::{Status, labctl};
 use plant::{Side, Tables};
 use plant_mem::MemLab;
 use row_files::letters_in;
-use row_words::Untold;
+use row_words::RowFault;
 use std::alloc::{AllocError, Global};
 use std::fmt::Write;
 
@@ -41,15 +41,15 @@ pub struct Ran {
 }
 
 /// Puts a plant in which nothing has happened in the place of the last one.
-pub fn blank(alloc: Global, last: &mut Option<MemLab>) -> Result<&mut MemLab, Untold> {
+pub fn blank(alloc: Global, last: &mut Option<MemLab>) -> Result<&mut MemLab, RowFault> {
     match MemLab::blank(alloc) {
         Ok(plant) => Ok(last.insert(plant)),
-        Err(_) => Err(Untold::Memory),
+        Err(_) => Err(RowFault::Memory),
     }
 }
 
 /// Runs a script over a plant.
-pub fn run<P: Tables>(alloc: Global, given: Given<'_>, plant: &mut P) -> Result<Ran, Untold> {
+pub fn run<P: Tables>(alloc: Global, given: Given<'_>, plant: &mut P) -> Result<Ran, RowFault> {
     let mut source = MemSource::new(alloc, given.script.as_bytes(), &[given.read])?;
     let mut sink = MemSink::new(alloc, given.room, &[given.write])?;
     let status = labctl(alloc, given.words, &mut source, &mut sink, plant);
@@ -69,7 +69,11 @@ fn add_status(out: &mut String, status: Status) -> Result<(), AllocError> {
 }
 
 /// The output of a run over a plant, and in a line of its own its end.
-pub fn ended<P: Tables>(alloc: Global, given: Given<'_>, plant: &mut P) -> Result<String, Untold> {
+pub fn ended<P: Tables>(
+    alloc: Global,
+    given: Given<'_>,
+    plant: &mut P,
+) -> Result<String, RowFault> {
     let ran = run(alloc, given, plant)?;
     let mut out = ran.output;
     if !out.is_empty() && !out.ends_with('\n') {
@@ -81,6 +85,6 @@ pub fn ended<P: Tables>(alloc: Global, given: Given<'_>, plant: &mut P) -> Resul
 }
 
 /// The output of a script over a blank plant, and its end.
-pub fn told(alloc: Global, script: &str, last: &mut Option<MemLab>) -> Result<String, Untold> {
+pub fn told(alloc: Global, script: &str, last: &mut Option<MemLab>) -> Result<String, RowFault> {
     ended(alloc, plainly(script), blank(alloc, last)?)
 }

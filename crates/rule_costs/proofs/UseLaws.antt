@@ -21,7 +21,7 @@ use Rattle.rule_costs.specs.Uses.{uses_of, uses_of_all}
 abbrev side : Lab → ℕ → List Bool
 side lab t = first_side_of lab.ifaces lab.trunks t
 
--- the cable at i, and those behind it
+-- the cable at i, and those after it
 uses_from : (lab : Lab) (segments : List Segment) (i : ℕ) (s : Segment) (plugs : List IfaceId) → i < length segments → s ≡ get_or segments i s
     → uses_of_all lab (cables (drop i segments) plugs)
     ≡ uses_of lab (record { segment = s; plugs = take (length s.ends) plugs }) + uses_of_all lab (cables (drop (i + 1) segments) (drop (length s.ends) plugs))

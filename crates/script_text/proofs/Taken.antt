@@ -1,4 +1,4 @@
--- The lines that are left behind a reader's call.
+-- The lines that are left after a reader's call.
 use Rattle.std.proofs.Common.{◌≡◌, inl, inr, ℕ, ◌^◌, ◌≤◌, Bool, zero, suc, true, false, Some, None, List, [], ◌∷◌, ◌++◌, ◌+◌, append_assoc, Option, Result, Ok, Err, IfSome, OnErr, arith, refl, sym, subst, ap, ◌∙◌}
 use Rattle.std.proofs.lemmas.Bool.{true≢false}
 use Rattle.std.proofs.lemmas.List.{append-nil, map-append}
@@ -51,21 +51,21 @@ long_none stand within long bytes is =
     let first = first_is_long stand.taken bytes within (subst (λ (r : Option (List ℕ)). IsTooLong stand.taken r) is long) in
     subst (λ (l : Lines). StartsLong l) (sym first.1) tt
 
--- WHAT IS FOUND behind a line is not before it
+-- WHAT IS FOUND after a line is not before it
 module _ (line : ℕ) where
-  pub behind_within : (onwards : List ℕ → ℕ → Lines → Found) → ((text : List ℕ) (number : ℕ) (rest : Lines) → line ≤ number → IsWithin line (onwards text number rest)) → (k : ℕ) (text : List ℕ) (number : ℕ) (lines : Lines) → line ≤ number
+  pub after_within : (onwards : List ℕ → ℕ → Lines → Found) → ((text : List ℕ) (number : ℕ) (rest : Lines) → line ≤ number → IsWithin line (onwards text number rest)) → (k : ℕ) (text : List ℕ) (number : ℕ) (lines : Lines) → line ≤ number
       → IsWithin line (behind (block k text number lines) onwards)
-  behind_within onwards by zero text number lines at = by text number lines at
-  behind_within onwards by (suc k) text number [] at = omega (arith, at)
-  behind_within onwards by (suc k) text number (None ∷ lines) at = omega (arith, at)
-  behind_within onwards by (suc k) text number (Some l ∷ lines) at = behind_within onwards by k (text ++ l ++ 10 ∷ []) (number + 1) lines (omega (arith, at))
+  after_within onwards by zero text number lines at = by text number lines at
+  after_within onwards by (suc k) text number [] at = omega (arith, at)
+  after_within onwards by (suc k) text number (None ∷ lines) at = omega (arith, at)
+  after_within onwards by (suc k) text number (Some l ∷ lines) at = after_within onwards by k (text ++ l ++ 10 ∷ []) (number + 1) lines (omega (arith, at))
 
   pub command_within : (head : Head) (number : ℕ) (lines : Lines) → line ≤ number → IsWithin line (command_at head number lines)
   command_within (heads.Whole command) number lines at = at
-  command_within (heads.Block what k) number lines at = behind_within (λ text. Got (completed what k text)) (λ text n rest h. h) k [] number lines at
+  command_within (heads.Block what k) number lines at = after_within (λ text. Got (completed what k text)) (λ text n rest h. h) k [] number lines at
   command_within (heads.Blocks what k m) number lines at =
-      behind_within (λ text after rest. behind (block m [] after rest) (λ other. Got (both_completed what k text m other)))
-      (λ text n rest h. behind_within (λ other. Got (both_completed what k text m other)) (λ other o r g. g) m [] n rest h) k [] number lines at
+      after_within (λ text after rest. behind (block m [] after rest) (λ other. Got (both_completed what k text m other)))
+      (λ text n rest h. after_within (λ other. Got (both_completed what k text m other)) (λ other o r g. g) m [] n rest h) k [] number lines at
 
   pub found_within : (said : Said) (number : ℕ) (lines : Lines) (onwards : Found) → line ≤ number → IsWithin line onwards → IsWithin line (found_by said number lines onwards)
   found_within said.Skipped number lines onwards at on = on
@@ -89,7 +89,7 @@ pub by_cases : {X : Type 0} (b : Bool) → (b ≡ true → X) → (b ≡ false �
 by_cases true f g = f refl
 by_cases false f g = g refl
 
--- what is known of the lines behind lines that were passed
+-- what is known of the lines after lines that were passed
 pub told_lines : (a b : Stand) (texts : List (List ℕ)) (bytes : List ℕ) → Passed a b texts → a.rest ≡ Some bytes → (rest : List ℕ) × (b.rest ≡ Some rest) × (lines_from a.taken bytes ≡ known texts ++ lines_from b.taken rest)
 told_lines a b texts bytes p is = by b.rest refl
   where
@@ -176,7 +176,7 @@ skipped_unfinished a b new s more same = record {
   unfinished = inl (ap (next_of a.lines) (sym (append-nil (known s.texts))) ∙ s.onwards []);
 }
 
--- the end behind skipped lines
+-- the end after skipped lines
 pub ended_skipped : (a b c : Stand) → Skipped a b → Passed b c [] → Skipped a c
 ended_skipped a b c s p = record {
   texts = s.texts ++ [];

@@ -14,27 +14,27 @@ use Rattle.script_text.specs.declared.heads.TwoBlocks.{TwoBlocks}
 use Rattle.script_text.specs.Heads.{completed, both_completed}
 use Rattle.script_text.specs.declared.next.Next.TheVariants as nexts
 use Rattle.script_text.specs.Taking.{known, Skipped, Begun, Blocked, IsShort, IsCut, Completes, IsBadAt, IsHalf, IsBad, Reads, IsUnfinished, IsWithin, NoFurther, NoLonger}
-use Rattle.script_text.proofs.Taken.{told_lines, known_behind, behind_within}
+use Rattle.script_text.proofs.Taken.{told_lines, known_behind, after_within}
 use Rattle.script_text.proofs.Blocks.{block_whole, block_short}
 
--- BEHIND A BLOCK, whatever is looked for there
+-- AFTER A BLOCK, whatever is looked for there
 module _ (onwards : List ℕ → ℕ → Lines → Found) (a : Stand) (k : ℕ) where
-  block_behind : (b : Stand) (text : List ℕ) (s : Blocked a b k text) (more : Lines) → behind (block k [] a.lines (known s.texts ++ more)) onwards ≡ onwards text b.lines more
-  block_behind b text s more =
+  block_after : (b : Stand) (text : List ℕ) (s : Blocked a b k text) (more : Lines) → behind (block k [] a.lines (known s.texts ++ more)) onwards ≡ onwards text b.lines more
+  block_after b text s more =
       ap (λ (n : ℕ). behind (block n [] a.lines (known s.texts ++ more)) onwards) (sym s.all)
       ∙ ap (λ w. behind w onwards) (block_whole s.texts [] a.lines more)
       ∙ (λ i. onwards (sym s.text_is i) (sym s.passed.number i) more)
 
-  short_behind : (line : ℕ) → IsShort a k line → (bytes : List ℕ) → a.rest ≡ Some bytes → behind (block k [] a.lines (lines_from a.taken bytes)) onwards ≡ Bad line
-  short_behind line s bytes is =
+  short_after : (line : ℕ) → IsShort a k line → (bytes : List ℕ) → a.rest ≡ Some bytes → behind (block k [] a.lines (lines_from a.taken bytes)) onwards ≡ Bad line
+  short_after line s bytes is =
       let told = told_lines a s.mid s.some.texts bytes s.some.passed is in
       ap (λ (ls : Lines). behind (block k [] a.lines ls) onwards) told.2
       ∙ ap (λ w. behind w onwards) (block_short k s.some.texts [] a.lines (lines_from s.mid.taken told.0) s.some.few (s.none told.0 told.1))
       ∙ ap (λ (n : ℕ). Bad (n + 1)) (sym s.some.passed.number)
       ∙ ap (λ (n : ℕ). Bad n) (sym s.line_is)
 
-  cut_behind : (new : Stand) (s : IsCut a new k) → behind (block k [] a.lines (known s.some.texts)) onwards ≡ Bad (s.mid.lines + 1)
-  cut_behind new s =
+  cut_after : (new : Stand) (s : IsCut a new k) → behind (block k [] a.lines (known s.some.texts)) onwards ≡ Bad (s.mid.lines + 1)
+  cut_after new s =
       ap (λ (ls : Lines). behind (block k [] a.lines ls) onwards) (sym (append-nil (known s.some.texts)))
       ∙ ap (λ w. behind w onwards) (block_short k s.some.texts [] a.lines [] s.some.few tt)
       ∙ ap (λ (n : ℕ). Bad (n + 1)) (sym s.some.passed.number)
@@ -42,7 +42,7 @@ module _ (onwards : List ℕ → ℕ → Lines → Found) (a : Stand) (k : ℕ) 
 -- a part of a block, and whatever follows
 module _ (line : ℕ) (onwards : List ℕ → ℕ → Lines → Found) (by : (text : List ℕ) (number : ℕ) (rest : Lines) → line ≤ number → IsWithin line (onwards text number rest)) where
   part_within : (k : ℕ) (texts : List (List ℕ)) (text : List ℕ) (number : ℕ) (more : Lines) → length texts ≤ k → line ≤ number + length texts → IsWithin line (behind (block k text number (known texts ++ more)) onwards)
-  part_within k [] text number more few at = behind_within line onwards by k text number more (omega (arith, at))
+  part_within k [] text number more few at = after_within line onwards by k text number more (omega (arith, at))
   part_within zero (t ∷ texts) text number more few at = absurd (omega (arith, few))
   part_within (suc k) (t ∷ texts) text number more few at = part_within k texts (text ++ t ++ 10 ∷ []) (number + 1) more (omega (arith, few)) (omega (arith, at))
 
@@ -55,13 +55,13 @@ module _ (what : OneBlock) (k : ℕ) where
   whole text = Got (completed what k text)
 
   pub block_completes : (a b : Stand) (text : List ℕ) → Blocked a b k text → Completes a b (heads.Block what k) (completed what k text)
-  block_completes a b text s = record { texts = s.texts; passed = s.passed; gives = block_behind whole a k b text s }
+  block_completes a b text s = record { texts = s.texts; passed = s.passed; gives = block_after whole a k b text s }
 
   pub short_bad : (a : Stand) (line : ℕ) → IsShort a k line → IsBadAt a (heads.Block what k) line
-  short_bad a line s = short_behind whole a k line s
+  short_bad a line s = short_after whole a k line s
 
   pub cut_half : (a new : Stand) → IsCut a new k → IsHalf a new (heads.Block what k)
-  cut_half a new s = record { mid = s.mid; texts = s.some.texts; passed = s.some.passed; same = s.same; more = s.more; half = cut_behind whole a k new s }
+  cut_half a new s = record { mid = s.mid; texts = s.some.texts; passed = s.some.passed; same = s.same; more = s.more; half = cut_after whole a k new s }
 
   pub block_no_further : (a new : Stand) → NoLonger a new k → NoFurther (command_at (heads.Block what k)) a new
   block_no_further a new s = record { mid = s.mid; texts = s.texts; passed = s.passed; same = s.same; within = longer_within s.mid.lines whole (λ text n rest h. h) a new k s refl }
@@ -80,22 +80,22 @@ module _ (what : TwoBlocks) (k m : ℕ) where
     passed = passed_more a b c s.texts t.texts s.passed t.passed;
     gives = λ more.
         ap (λ (ls : Lines). behind (block k [] a.lines ls) second) (known_behind s.texts t.texts more)
-        ∙ block_behind second a k b text s (known t.texts ++ more)
-        ∙ block_behind (both text) b m c other t more;
+        ∙ block_after second a k b text s (known t.texts ++ more)
+        ∙ block_after (both text) b m c other t more;
   }
 
   pub first_short : (a : Stand) (line : ℕ) → IsShort a k line → IsBadAt a (heads.Blocks what k m) line
-  first_short a line s = short_behind second a k line s
+  first_short a line s = short_after second a k line s
 
   pub second_short : (a b : Stand) (text : List ℕ) (line : ℕ) → Blocked a b k text → IsShort b m line → IsBadAt a (heads.Blocks what k m) line
   second_short a b text line s t bytes is =
       let told = told_lines a b s.texts bytes s.passed is in
       ap (λ (ls : Lines). behind (block k [] a.lines ls) second) told.2
-      ∙ block_behind second a k b text s (lines_from b.taken told.0)
-      ∙ short_behind (both text) b m line t told.0 told.1
+      ∙ block_after second a k b text s (lines_from b.taken told.0)
+      ∙ short_after (both text) b m line t told.0 told.1
 
   pub first_cut : (a new : Stand) → IsCut a new k → IsHalf a new (heads.Blocks what k m)
-  first_cut a new s = record { mid = s.mid; texts = s.some.texts; passed = s.some.passed; same = s.same; more = s.more; half = cut_behind second a k new s }
+  first_cut a new s = record { mid = s.mid; texts = s.some.texts; passed = s.some.passed; same = s.same; more = s.more; half = cut_after second a k new s }
 
   pub second_cut : (a b new : Stand) (text : List ℕ) → Blocked a b k text → IsCut b new m → IsHalf a new (heads.Blocks what k m)
   second_cut a b new text s t = record {
@@ -106,8 +106,8 @@ module _ (what : TwoBlocks) (k m : ℕ) where
     more = t.more;
     half =
         ap (λ (ls : Lines). behind (block k [] a.lines ls) second) (map-append (λ (t : List ℕ). let o : Option (List ℕ) = Some t in o) s.texts t.some.texts)
-        ∙ block_behind second a k b text s (known t.some.texts)
-        ∙ cut_behind (both text) b m new t;
+        ∙ block_after second a k b text s (known t.some.texts)
+        ∙ cut_after (both text) b m new t;
   }
 
   both_within : (line : ℕ) (text other : List ℕ) (number : ℕ) (rest : Lines) → line ≤ number → IsWithin line (both text other number rest)
@@ -119,7 +119,7 @@ module _ (what : TwoBlocks) (k m : ℕ) where
     texts = s.texts;
     passed = s.passed;
     same = s.same;
-    within = longer_within s.mid.lines second (λ text n rest h. behind_within s.mid.lines (both text) (both_within s.mid.lines text) m [] n rest h) a new k s refl;
+    within = longer_within s.mid.lines second (λ text n rest h. after_within s.mid.lines (both text) (both_within s.mid.lines text) m [] n rest h) a new k s refl;
   }
 
   pub second_no_further : (a b new : Stand) (text : List ℕ) → Blocked a b k text → NoLonger b new m → NoFurther (command_at (heads.Blocks what k m)) a new
@@ -129,7 +129,7 @@ module _ (what : TwoBlocks) (k m : ℕ) where
     passed = passed_more a b t.mid s.texts t.texts s.passed t.passed;
     same = t.same;
     within = λ more. subst (λ (f : Found). IsWithin t.mid.lines f)
-        (sym (ap (λ (ls : Lines). behind (block k [] a.lines ls) second) (known_behind s.texts t.texts more) ∙ block_behind second a k b text s (known t.texts ++ more)))
+        (sym (ap (λ (ls : Lines). behind (block k [] a.lines ls) second) (known_behind s.texts t.texts more) ∙ block_after second a k b text s (known t.texts ++ more)))
         (longer_within t.mid.lines (both text) (both_within t.mid.lines text) b new m t refl more);
   }
 
@@ -137,7 +137,7 @@ module _ (what : TwoBlocks) (k m : ℕ) where
 pub whole_completes : (a : Stand) (command : Command) → IsSettled a → Completes a a (heads.Whole command) command
 whole_completes a command settled = record { texts = []; passed = passed_none a a settled (λ h. h) refl refl refl; gives = λ more. refl }
 
--- BEHIND SKIPPED LINES AND A HEAD
+-- AFTER SKIPPED LINES AND A HEAD
 pub command_next : (a b c : Stand) (head : Head) (command : Command) → Begun a b head → Completes b c head command → Reads a (nexts.Command command) c
 command_next a b c head command begun s = (
   begun.texts ++ s.texts,

@@ -46,7 +46,7 @@ named field = if is_name field then Some field else None
 abbrev pub seed_of : List ℕ → Option ℕ
 seed_of field = number_of 18446744073709551615 field
 
--- what the fields behind a word are: none, a name, a number of lines, a name and one or two numbers of lines, or a name
+-- what the fields after a word are: none, a name, a number of lines, a name and one or two numbers of lines, or a name
 -- and a seed, alone or with a number of lines
 abbrev pub no_field : List (List ℕ) → Option (Unit {0})
 no_field [] = Some tt
@@ -127,7 +127,7 @@ abbrev pub stop_head : List (List ℕ) → Option Head
 stop_head (nth ∷ pick ∷ []) = option_and_then (λ n. option_map (λ p. Whole (commands.Stop n p)) (pick_of pick)) (nth_of nth)
 stop_head fields = None
 
--- A SWAP BY ITS WORD and the fields behind it: whether it is opened only, is said before
+-- A SWAP BY ITS WORD and the fields after it: whether it is opened only, is said before
 abbrev pub swap_by : Bool → List ℕ → List (List ℕ) → Option Head
 swap_by only word fields =
     if bytes_eq word (codes "swapin") then option_map (λ given. Whole (commands.Swapin only given.0 given.1)) (name_and_seed fields)
@@ -141,7 +141,7 @@ abbrev pub opened_by : List (List ℕ) → Option Head
 opened_by [] = None
 opened_by (word ∷ fields) = swap_by true word fields
 
--- A COMMAND BY ITS WORD and the fields behind it
+-- A COMMAND BY ITS WORD and the fields after it
 abbrev pub head_by : List ℕ → List (List ℕ) → Option Head
 head_by word fields =
     if bytes_eq word (codes "ptop") then option_map (λ k. Block Ptop k) (only_count fields)

@@ -28,15 +28,15 @@ phase_word Out = codes "out"
 phase_word In = codes "in"
 phase_word Moving = codes "moving"
 
--- words with a name behind them, and a line feed
+-- words with a name after them, and a line feed
 abbrev pub named_line : List ℕ → List ℕ → List ℕ
 named_line words name = words ++ name ++ 10 ∷ []
 
--- words with the line and the kind of a fault behind them
+-- words with the line and the kind of a fault after them
 abbrev pub fault_line : List ℕ → TextFault → List ℕ
 fault_line words fault = words ++ decimal fault.line ++ 32 ∷ [] ++ word_of fault.kind ++ 10 ∷ []
 
--- words with two numbers behind them
+-- words with two numbers after them
 abbrev pub two_line : List ℕ → ℕ → ℕ → List ℕ
 two_line words first second = words ++ decimal first ++ 32 ∷ [] ++ decimal second ++ 10 ∷ []
 

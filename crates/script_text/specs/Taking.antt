@@ -1,4 +1,4 @@
--- The calls that read a command, and the reader behind them.
+-- The calls that read a command, and the reader after them.
 use Rattle.std.specs.Prelude.{◌≡◌, ◌⊎◌, ◌+◌, ◌<◌, ◌≤◌, ℕ, max, false, List, [], ◌∷◌, ◌++◌, length, map, Some, None}
 use Rattle.std.specs.List.{flat_map}
 use Rattle.std.specs.Io.KnownBytes.{IsAtEnd}
@@ -33,7 +33,7 @@ HasLong stand = (bytes : List ℕ) → stand.rest ≡ Some bytes → StartsLong 
 abbrev pub HasNoLine : Stand → Type 0
 HasNoLine stand = (bytes : List ℕ) → stand.rest ≡ Some bytes → NoLine (lines_from stand.taken bytes)
 
--- lines one behind another, each with a line feed
+-- lines one after another, each with a line feed
 abbrev pub joined : List (List ℕ) → List ℕ
 joined texts = flat_map (λ t. t ++ 10 ∷ []) texts
 
@@ -76,7 +76,7 @@ pub record IsCut (old new : Stand) (count : ℕ) : Type 0 where
   pub same : new.rest ≡ mid.rest
   pub more : mid.ended ≡ false
 
--- the lines behind a head were passed, and the command is whole
+-- the lines after a head were passed, and the command is whole
 pub record Completes (old new : Stand) (head : Head) (command : Command) : Type 0 where
   pub texts : List (List ℕ)
   pub passed : Passed old new texts
@@ -116,13 +116,13 @@ pub record IsUnfinished (old new : Stand) : Type 0 where
   pub more : mid.ended ≡ false
   pub unfinished : Unfinished (next_of old.lines (known texts)) mid.lines
 
--- a line is not behind what is found: the last line of the command, or the one that is not in the grammar
+-- a line is not after what is found: the last line of the command, or the one that is not in the grammar
 abbrev pub IsWithin : ℕ → Found → Type 0
 IsWithin line (Got command number rest) = line ≤ number
 IsWithin line End = Unit {0}
 IsWithin line (Bad number) = line ≤ number
 
--- lines were passed, of which none is behind what is found there, whatever follows, and what is left was left behind them
+-- lines were passed, of which none is after what is found there, whatever follows, and what is left was left after them
 pub record NoFurther (find : ℕ → Lines → Found) (old new : Stand) : Type 0 where
   pub mid : Stand
   pub texts : List (List ℕ)
@@ -130,7 +130,7 @@ pub record NoFurther (find : ℕ → Lines → Found) (old new : Stand) : Type 0
   pub same : new.rest ≡ mid.rest
   pub within : (more : Lines) → IsWithin mid.lines (find old.lines (known texts ++ more))
 
--- so many lines of a block were passed at most, and what is left was left behind them
+-- so many lines of a block were passed at most, and what is left was left after them
 pub record NoLonger (old new : Stand) (count : ℕ) : Type 0 where
   pub mid : Stand
   pub texts : List (List ℕ)
@@ -143,6 +143,6 @@ abbrev pub GoesOn : Next → ℕ → ℕ → Type 0
 GoesOn (nexts.Command c) before after = before < after
 GoesOn nexts.End before after = Unit {0}
 
--- a reader has no more bytes ahead than it had, or than the longest line with a piece that was read behind it
+-- a reader has no more bytes ahead than it had, or than the longest line with a piece that was read after it
 abbrev pub HoldsNoMore : LineReader → LineReader → Type 0
 HoldsNoMore old new = length (pending_of new) ≤ max (length (pending_of old)) 8193

@@ -57,7 +57,7 @@ pub enum Command {
         ns: Text,
     },
     /// `modify-with E N M`: gives an experiment, which has to be in, the wiring of the top text of the next N lines.
-    /// The solution text is the M lines behind them.
+    /// The solution text is the M lines after them.
     ModifyWith {
         only_begin: bool,
         exp: Name,

@@ -59,7 +59,7 @@ pub(crate) enum Head {
         what: OneBlock,
         lines: u16,
     },
-    /// The first block has `first` lines, and the second so many behind them.
+    /// The first block has `first` lines, and the second so many after them.
     Blocks {
         what: TwoBlocks,
         first: u16,
@@ -322,7 +322,7 @@ pub(crate) fn is_word(field: &[u8], word: &[u8]) -> bool
     field == word
 }
 
-/// The head that the word of a swap and the fields behind it are.
+/// The head that the word of a swap and the fields after it are.
 fn swap_by(only_begin: bool, word: &[u8], fields: &[&[u8]]) -> Option<Head>
     ensures head { result ≡ swap_by only_begin word.now (views fields.now) }
     ensures range { IfSome result IsInRange }
@@ -365,7 +365,7 @@ fn swap_by(only_begin: bool, word: &[u8], fields: &[&[u8]]) -> Option<Head>
     }
 }
 
-/// The head of a swap that is only begun, from the fields behind `open`.
+/// The head of a swap that is only begun, from the fields after `open`.
 fn opened_by(fields: &[&[u8]]) -> Option<Head>
     ensures head { result ≡ opened_by (views fields.now) }
     ensures range { IfSome result IsInRange }
@@ -376,7 +376,7 @@ fn opened_by(fields: &[&[u8]]) -> Option<Head>
     }
 }
 
-/// The head of a command, from its word and the fields behind it. This is the table of all words.
+/// The head of a command, from its word and the fields after it. This is the table of all words.
 fn head_by(word: &[u8], fields: &[&[u8]]) -> Option<Head>
     ensures head { result ≡ head_by word.now (views fields.now) }
     ensures range { IfSome result IsInRange }

@@ -200,7 +200,7 @@ fn with_blocks<S: Source>(
 /// Reads the next command of a script, with its blocks; its words are by the forms of `Command`.
 ///
 /// It is for a reader that has met no fault: of one that has, it isn't said which answer comes.
-/// After a fault no line was taken behind the command that comes next, or behind the one that `Bad` tells.
+/// After a fault no line was taken after the command that comes next, or after the one that `Bad` tells.
 pub fn read_command<S: Source>(
     alloc: Global,
     lines: &mut LineReader,

@@ -85,7 +85,7 @@ fn add_placed(text: &mut Text, placed: &Option<Placed>) -> Result<(), Memory>
     add_tags(text, placed.tags.as_slice())
 }
 
-/// The line behind a text in a reply.
+/// The line after a text in a reply.
 fn add_end(text: &mut Text, exp: &Name) -> Result<(), Memory>
     ensures { OnOk result (text.new ≡ text.old ++ codes "end " ++ exp.now ++ 10 ∷ []) }
 {
@@ -117,7 +117,7 @@ fn shown<'a>(
     Ok(text)
 }
 
-/// The text of a search's solution, behind the words `least` or `local`.
+/// The text of a search's solution, after the words `least` or `local`.
 fn solved<'a>(
     alloc: Global,
     words: &'a [u8],
@@ -268,7 +268,7 @@ fn bad(alloc: Global, exp: &Name, fault: TextFault) -> Result<Text, Memory>
     )
 }
 
-/// Words with the line and the kind of a fault behind them.
+/// Words with the line and the kind of a fault after them.
 fn faulty(alloc: Global, words: &[u8], fault: TextFault) -> Result<Text, Memory>
     ensures { IfOk result (λ text. text ≡ fault_line words.now fault) }
 {

@@ -33,7 +33,7 @@ impl Served {
         }
     }
 
-    /// These replies, and one more behind them.
+    /// These replies, and one more after them.
     pub fn followed_by(&self, alloc: Global, reply: &Reply) -> Result<Served, Memory>
         ensures { IfOk result (λ served. (told : List AnyReply) → self.now ≡ served_of told → served ≡ served_of (told ++ reply.now ∷ [])) }
     {

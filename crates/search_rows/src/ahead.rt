@@ -6,7 +6,7 @@ use crate::problem::{lab_of, tell_short};
 use lab_ahead::{Fit, MAX_PROMISES, Need, fits, needs_at, read_batch};
 use lab_base::{Items, Kind, Memory, NodeId, Text};
 use phys_lab::Lab;
-use row_words::Untold;
+use row_words::RowFault;
 use std::alloc::Global;
 
 fn all_nodes(alloc: Global, lab: &Lab) -> Result<Vec<NodeId>, Memory>
@@ -59,7 +59,7 @@ fn push_fitted(
 }
 
 /// The needs of a batch's promises that hold at 0.
-fn needs_of(alloc: Global, batch: &[u8]) -> Result<Items<Need>, Untold> {
+fn needs_of(alloc: Global, batch: &[u8]) -> Result<Items<Need>, RowFault> {
     tell_short(batch)?;
     let batch = read_batch(alloc, batch)?;
     let needs = needs_at(alloc, batch.promises.as_slice(), 0);
@@ -74,9 +74,9 @@ fn push_times(
     times: u64,
     lab: &Lab,
     needs: &[Need],
-) -> Result<(), Untold> {
+) -> Result<(), RowFault> {
     if needs.len() > MAX_PROMISES {
-        return Err(Untold::Word(Kind::Many));
+        return Err(RowFault::Word(Kind::Many));
     }
     let nodes = all_nodes(alloc, lab)?;
     for _time in 0..times {
@@ -86,13 +86,13 @@ fn push_times(
 }
 
 /// Adds so many times whether the promises of a batch that hold at 0 fit.
-pub fn tell(
+pub fn add_output(
     out: &mut Text,
     alloc: Global,
     times: u64,
     ptop: &[u8],
     batch: &[u8],
-) -> Result<(), Untold> {
+) -> Result<(), RowFault> {
     let needs = needs_of(alloc, batch)?;
     let lab = lab_of(alloc, ptop)?;
     let told = push_times(out, alloc, times, &lab, needs.as_slice());

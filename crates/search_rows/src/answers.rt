@@ -14,7 +14,7 @@ use cost_rule::StepRule;
 use lab_base::{Kind, Memory, Text};
 use map_anneal::{anneal, descend};
 use phys_lab::Lab;
-use row_words::{Untold, push_number};
+use row_words::{RowFault, push_number};
 use std::alloc::Global;
 use std::cell::Cell;
 use std::collections::BTreeSet;
@@ -123,12 +123,12 @@ fn push_best(
     problem: &Problem<'_>,
     rule: &StepRule,
     asked: &Cell<Asked>,
-) -> Result<(), Untold>
+) -> Result<(), RowFault>
     requires free { IsFreeOf problem.now.lab.now problem.now.free.now }
     requires sound { IsSound problem.now.wiring.now }
 {
     if !has_few(alloc, problem)? {
-        return Err(Untold::Word(Kind::Many));
+        return Err(RowFault::Word(Kind::Many));
     }
     match best_of_all(alloc, problem.lab, problem.free, problem.wiring, rule) {
         Ok(Some((mapping, cost))) => {
@@ -137,7 +137,7 @@ fn push_best(
             Ok(told?)
         }
         Ok(None) => Ok(push_none(out, asked.get())?),
-        Err(memory) => Err(Untold::from(memory)),
+        Err(memory) => Err(RowFault::from(memory)),
     }
 }
 
@@ -185,7 +185,7 @@ fn push_descent(
     problem: &Problem<'_>,
     rule: &StepRule,
     asked: &Cell<Asked>,
-) -> Result<(), Untold>
+) -> Result<(), RowFault>
     requires free { IsFreeOf problem.now.lab.now problem.now.free.now }
     requires sound { IsSound problem.now.wiring.now }
 {
@@ -195,7 +195,7 @@ fn push_descent(
             drop(start);
             Ok(told?)
         }
-        Err(untold) => Err(untold),
+        Err(row_fault) => Err(row_fault),
     }
 }
 
@@ -270,7 +270,7 @@ fn push_walk(
     rule: &StepRule,
     asked: &Cell<Asked>,
     seed: u64,
-) -> Result<(), Untold>
+) -> Result<(), RowFault>
     requires free { IsFreeOf problem.now.lab.now problem.now.free.now }
     requires sound { IsSound problem.now.wiring.now }
 {
@@ -280,7 +280,7 @@ fn push_walk(
             drop(start);
             Ok(told?)
         }
-        Err(untold) => Err(untold),
+        Err(row_fault) => Err(row_fault),
     }
 }
 
@@ -292,7 +292,7 @@ fn line_of(
     rule: &StepRule,
     asked: &Cell<Asked>,
     seed: u64,
-) -> Result<Text, Untold>
+) -> Result<Text, RowFault>
     requires free { IsFreeOf problem.now.lab.now problem.now.free.now }
     requires sound { IsSound problem.now.wiring.now }
 {
@@ -315,7 +315,7 @@ fn lines_of(
     problem: &Problem<'_>,
     rule: &StepRule,
     asked: &Cell<Asked>,
-) -> Result<BTreeSet<Text>, Untold>
+) -> Result<BTreeSet<Text>, RowFault>
     requires free { IsFreeOf problem.now.lab.now problem.now.free.now }
     requires sound { IsSound problem.now.wiring.now }
 {
@@ -323,7 +323,7 @@ fn lines_of(
     for seed in 0..times {
         let line = line_of(alloc, search, problem, rule, asked, seed)?;
         let Ok(_is_new) = lines.insert(line) else {
-            return Err(Untold::Memory);
+            return Err(RowFault::Memory);
         };
     }
     Ok(lines)
@@ -338,7 +338,7 @@ pub fn tell_answers(
     problem: &Problem<'_>,
     rule: &StepRule,
     asked: &Cell<Asked>,
-) -> Result<(), Untold>
+) -> Result<(), RowFault>
     requires free { IsFreeOf problem.now.lab.now problem.now.free.now }
     requires sound { IsSound problem.now.wiring.now }
 {

@@ -8,7 +8,7 @@
 //! solve   the whole search
 //! ```
 //!
-//! Other rows tell the answers of a search by that many seeds, 0, 1, .., each answer once, with the machines of the virtual nodes by number. Behind
+//! Other rows tell the answers of a search by that many seeds, 0, 1, .., each answer once, with the machines of the virtual nodes by number. After
 //! `asked` is told how often it asks the cost rule: for a mapping alone, by a step, and by parts.
 //!
 //! ```text
@@ -18,7 +18,7 @@
 //! walked      the annealing walk from FirstFit: by the first letter of each machine, and whether it asks by parts more often than by a step
 //! ```
 //!
-//! Behind a word of a search stands `-pack` where it is under the rule that counts nodes, as `walk-pack`; else it is under that of the trunks.
+//! After a word of a search stands `-pack` where it is under the rule that counts nodes, as `walk-pack`; else it is under that of the trunks.
 //!
 //! A row isn't told where FirstFit finds no start of its walk or descent, or where `best` has many node maps. A text that is refused is told by
 //! the line and the kind of its fault.
@@ -34,7 +34,7 @@ mod walk;
 use answers::Search;
 use cost_rule::RuleNumber;
 use lab_base::{Kind, Text, number_in};
-use row_words::Untold;
+use row_words::RowFault;
 use search::{Run, What};
 use std::alloc::Global;
 
@@ -61,27 +61,27 @@ fn ruled(kind: &str) -> (&str, RuleNumber) {
 }
 
 /// Adds the output of a row.
-fn tell(
+fn add_output(
     out: &mut Text,
     alloc: Global,
     kind: &str,
     times: u64,
     ptop: &[u8],
     text: &[u8],
-) -> Result<(), Untold> {
+) -> Result<(), RowFault> {
     if kind == "ahead" {
-        return ahead::tell(out, alloc, times, ptop, text);
+        return ahead::add_output(out, alloc, times, ptop, text);
     }
     let (word, number) = ruled(kind);
     let Some(what) = search_named(word) else {
-        return Err(Untold::Word(Kind::Unknown));
+        return Err(RowFault::Word(Kind::Unknown));
     };
     let run = Run {
         what,
         number,
         times,
     };
-    search::tell(out, alloc, run, ptop, text)
+    search::add_output(out, alloc, run, ptop, text)
 }
 
 /// The output of a row of two words over a lab's text and another one, without the end of its last line.
@@ -91,10 +91,10 @@ pub fn told(
     times: &str,
     ptop: &[u8],
     text: &[u8],
-) -> Result<Text, Untold> {
+) -> Result<Text, RowFault> {
     let times = number_in(times.as_bytes(), 1, 1_000_000)?;
     let mut out = Text::new(alloc);
-    tell(&mut out, alloc, kind, times, ptop, text)?;
+    add_output(&mut out, alloc, kind, times, ptop, text)?;
     let mut lines = out.into_vec();
     let _end = lines.pop();
     Ok(Text::from_vec(lines))

@@ -6,7 +6,7 @@ ghost use Rattle.virt_topo.specs.Soundness.{IsSound};
 use lab_base::{Items, Kind, Memory, TEXT_LIMIT};
 use phys_lab::{Free, Lab};
 use ptop_text::read_ptop;
-use row_words::Untold;
+use row_words::RowFault;
 use std::alloc::Global;
 use top_text::read_top;
 use virt_topo::Wiring;
@@ -53,13 +53,13 @@ pub fn tell_short(text: &[u8]) -> Result<(), Kind>
 }
 
 /// The lab of a text.
-pub fn lab_of(alloc: Global, ptop: &[u8]) -> Result<Lab, Untold> {
+pub fn lab_of(alloc: Global, ptop: &[u8]) -> Result<Lab, RowFault> {
     tell_short(ptop)?;
     Ok(read_ptop(alloc, ptop)?)
 }
 
 /// The wiring of a text.
-pub fn wiring_of(alloc: Global, top: &[u8]) -> Result<Wiring, Untold>
+pub fn wiring_of(alloc: Global, top: &[u8]) -> Result<Wiring, RowFault>
     ensures { IfOk result IsSound }
 {
     tell_short(top)?;

@@ -13,7 +13,7 @@ use assign_core::{Solved, first_fit, solve};
 use cost_rule::{CostFn, Parts, PartsFn, Rule, RuleNumber, StepFn, StepRule};
 use lab_base::{Memory, Text};
 use phys_lab::Lab;
-use row_words::Untold;
+use row_words::RowFault;
 use rule_costs::{cost_of, parts_cost, step_cost};
 use std::alloc::Global;
 use std::cell::Cell;
@@ -125,14 +125,14 @@ fn tell_by(
     problem: &Problem<'_>,
     rule: &StepRule,
     asked: &Cell<Asked>,
-) -> Result<(), Untold>
+) -> Result<(), RowFault>
     requires free { IsFreeOf problem.now.lab.now problem.now.free.now }
     requires sound { IsSound problem.now.wiring.now }
 {
     let times = run.times;
     match run.what {
         What::Fit => Ok(tell_fits(out, alloc, times, problem)?),
-        What::Walk => walk::tell(out, alloc, times, problem, rule),
+        What::Walk => walk::add_output(out, alloc, times, problem, rule),
         What::Solve => Ok(tell_solves(out, alloc, times, problem, rule)?),
         What::Answers(search) => tell_answers(out, alloc, search, times, problem, rule, asked),
     }
@@ -145,7 +145,7 @@ fn tell_counted(
     run: Run,
     problem: &Problem<'_>,
     asked: &Rc<Cell<Asked>>,
-) -> Result<(), Untold>
+) -> Result<(), RowFault>
     requires free { IsFreeOf problem.now.lab.now problem.now.free.now }
     requires sound { IsSound problem.now.wiring.now }
 {
@@ -174,13 +174,13 @@ fn tell_counted(
         parts_cost(number, some)
     };
     let Ok(whole) = Box::new(alloc, by_number) else {
-        return Err(Untold::Memory);
+        return Err(RowFault::Memory);
     };
     let Ok(step) = Box::new(alloc, by_step) else {
-        return Err(Untold::Memory);
+        return Err(RowFault::Memory);
     };
     let Ok(parted) = Box::new(alloc, by_parts) else {
-        return Err(Untold::Memory);
+        return Err(RowFault::Memory);
     };
     let (whole, step, parted): (CostFn, StepFn, PartsFn) = (whole, step, parted);
     let rule = StepRule::new(Rule::new(number, whole), step, parted);
@@ -193,12 +193,12 @@ fn tell_problem(
     alloc: Global,
     run: Run,
     problem: &Problem<'_>,
-) -> Result<(), Untold>
+) -> Result<(), RowFault>
     requires free { IsFreeOf problem.now.lab.now problem.now.free.now }
     requires sound { IsSound problem.now.wiring.now }
 {
     let Ok(asked) = Rc::new(alloc, Cell::new(Asked::never())) else {
-        return Err(Untold::Memory);
+        return Err(RowFault::Memory);
     };
     tell_counted(out, alloc, run, problem, &asked)
 }
@@ -210,7 +210,7 @@ fn tell_in(
     run: Run,
     lab: &Lab,
     wiring: &Wiring,
-) -> Result<(), Untold>
+) -> Result<(), RowFault>
     requires { IsSound wiring.now }
 {
     let free = all_of(alloc, lab)?;
@@ -231,7 +231,7 @@ fn tell_over(
     run: Run,
     ptop: &[u8],
     wiring: &Wiring,
-) -> Result<(), Untold>
+) -> Result<(), RowFault>
     requires { IsSound wiring.now }
 {
     match lab_of(alloc, ptop) {
@@ -240,24 +240,24 @@ fn tell_over(
             drop(lab);
             told
         }
-        Err(untold) => Err(untold),
+        Err(row_fault) => Err(row_fault),
     }
 }
 
 /// Searches the problem of two texts so many times.
-pub fn tell(
+pub fn add_output(
     out: &mut Text,
     alloc: Global,
     run: Run,
     ptop: &[u8],
     top: &[u8],
-) -> Result<(), Untold> {
+) -> Result<(), RowFault> {
     match wiring_of(alloc, top) {
         Ok(wiring) => {
             let told = tell_over(out, alloc, run, ptop, &wiring);
             drop(wiring);
             told
         }
-        Err(untold) => Err(untold),
+        Err(row_fault) => Err(row_fault),
     }
 }

@@ -12,7 +12,7 @@ use cost_rule::StepRule;
 use lab_base::{Kind, Memory, Text};
 use map_anneal::{Prepared, anneal_by};
 use map_state::Search;
-use row_words::Untold;
+use row_words::RowFault;
 use std::alloc::Global;
 use virt_topo::Mapping;
 
@@ -38,7 +38,7 @@ fn rounds_from(cost: u64) -> u64 {
 }
 
 /// Where the walk begins.
-pub fn start_of(alloc: Global, problem: &Problem<'_>, rule: &StepRule) -> Result<Mapping, Untold>
+pub fn start_of(alloc: Global, problem: &Problem<'_>, rule: &StepRule) -> Result<Mapping, RowFault>
     requires free { IsFreeOf problem.now.lab.now problem.now.free.now }
     requires sound { IsSound problem.now.wiring.now }
     ensures shaped { IfOk result (IsShaped problem.now.lab.now problem.now.wiring.now) }
@@ -46,8 +46,8 @@ pub fn start_of(alloc: Global, problem: &Problem<'_>, rule: &StepRule) -> Result
 {
     match first_fit(alloc, problem.lab, problem.free, problem.wiring) {
         Ok(Some(start)) => Ok(start),
-        Ok(None) => Err(Untold::Word(Kind::Missing)),
-        Err(memory) => Err(Untold::from(memory)),
+        Ok(None) => Err(RowFault::Word(Kind::Missing)),
+        Err(memory) => Err(RowFault::from(memory)),
     }
 }
 
@@ -96,13 +96,13 @@ fn push_walks(
 }
 
 /// Walks so many times from FirstFit, and adds how many tries all of these have.
-pub fn tell(
+pub fn add_output(
     out: &mut Text,
     alloc: Global,
     times: u64,
     problem: &Problem<'_>,
     rule: &StepRule,
-) -> Result<(), Untold>
+) -> Result<(), RowFault>
     requires free { IsFreeOf problem.now.lab.now problem.now.free.now }
     requires sound { IsSound problem.now.wiring.now }
 {
@@ -112,6 +112,6 @@ pub fn tell(
             drop(start);
             Ok(told?)
         }
-        Err(untold) => Err(untold),
+        Err(row_fault) => Err(row_fault),
     }
 }

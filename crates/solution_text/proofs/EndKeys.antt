@@ -53,7 +53,7 @@ keys_length earlier (x ∷ ends) = ap suc (keys_length (earlier ++ x ∷ []) end
 unequal : (x y : ℕ) → y < x → eqb x y ≡ false
 unequal x y lt = grind (arith, nat_tests)
 
--- how many keys stand before (v, n), behind the end of x
+-- how many keys stand before (v, n), beyond the end of x
 abbrev behind : ℕ → List ℕ → List ℕ → ℕ → ℕ → ℕ
 behind v earlier ends x n = prefix_len (λ key. not (same_key (v, n) key)) (end_keys (earlier ++ x ∷ []) ends)
 
@@ -95,7 +95,7 @@ key_place ends v k =
     let at : prefix_len (λ key. not (same_key (v, k) key)) (end_keys [] ends) ≡ end_number ends v k = keys_prefix v [] ends k k (omega arith) in
     λ i. cond (ltb (at i) (keys_length [] ends i)) (Some (at i)) None
 
--- the end behind `front` has that number
+-- the end after `front` has that number
 abbrev later : ℕ → List ℕ → List ℕ → ℕ → ℕ
 later v front rest k = end_number (front ++ v ∷ rest) v k
 

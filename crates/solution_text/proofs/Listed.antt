@@ -1,4 +1,4 @@
--- The interfaces of each node, one behind another.
+-- The interfaces of each node, one after another.
 use Rattle.std.proofs.Common.{◌≡◌, ℕ, ◌+◌, ◌<◌, ◌≤◌, eqb, ◌&&◌, Bool, true, false, List, length, drop, get_or, set, Some, None, refl, sym, ap, ◌∙◌, inl, inr, arith}
 use Rattle.std.specs.List.{position, position_from}
 use Rattle.std.proofs.lemmas.Bool.{cases_eq, eq-eqb, eqb-true, ne_eqb}
@@ -39,7 +39,7 @@ first_more xs first k n x one lt is own before node within = elim (cases_eq node
       get_or-set_other first x.node.0 node k 0 other ∙ before node within ∙ ap (λ (m : ℕ). next_on xs node m) one ∙ sym (next_later (of_node node) xs k x lt no)
 ]
 
--- behind it stands what was the first of its node
+-- after it stands what was the first of its node
 pub next_more : (xs : List Iface) (nexts : List ℕ) (k n now : ℕ) (x : Iface) → n ≡ k + 1 → k < length xs → x ≡ get_or xs k x → k < length nexts → now ≡ next_on xs x.node.0 n
     → ((i : ℕ) → n ≤ i → i < length xs → get_or nexts i 0 ≡ next_on xs (get_or xs i no_iface).node.0 (i + 1))
     → (i : ℕ) → k ≤ i → i < length xs → get_or (set nexts k now) i 0 ≡ next_on xs (get_or xs i no_iface).node.0 (i + 1)

@@ -201,7 +201,7 @@ plug_at (f ∷ front) z rest earlier (v ∷ ends) (y ∷ plugs) e =
       beside = omega (arith, p.beside);
     }
 
--- the end behind `before` has its number
+-- the end after `before` has its number
 end_own : (w : Wiring) (before behind : List ℕ) (v : ℕ) → end_nodes w.segments ≡ before ++ v ∷ behind → end_of w v (ends_of v before) ≡ Some (length before)
 end_own w before behind v is =
     let number : end_number (end_nodes w.segments) v (ends_of v before) ≡ length before = ap (λ (l : List ℕ). end_number l v (ends_of v before)) is ∙ number_at v before behind in

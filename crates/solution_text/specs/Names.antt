@@ -31,7 +31,7 @@ IsIface ifaces node name i = (i < length ifaces) × ((slice_index_or ifaces i no
 abbrev pub next_on : List Iface → ℕ → ℕ → ℕ
 next_on ifaces node from = from + position_or_len (λ i. node == i.node.0) (drop from ifaces)
 
--- each node's interfaces stand one behind another
+-- each node's interfaces stand one after another
 pub record AreListed (lab : Lab) (lists : NodeIfaces) : Type 0 where
   pub nodes : length lists.first.items ≡ length lab.nodes
   pub ifaces : length lists.next.items ≡ length lab.ifaces

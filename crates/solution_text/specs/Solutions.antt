@@ -21,7 +21,7 @@ use Rattle.lab_model.specs.Shapes.{Place, has_name, node_at}
 use Rattle.top_text.specs.Adding.{virt_named}
 use Rattle.solution_text.specs.declared.given.Given.{Given}
 
--- LINES, BY THEIR FIELDS BEHIND THE KEYWORD
+-- LINES, BY THEIR FIELDS AFTER THE KEYWORD
 
 -- a virtual node, a node and a type
 abbrev pub PlaceRead : Type 0
@@ -129,7 +129,7 @@ all_given [] = Some []
 all_given (None ∷ entries) = None
 all_given (Some x ∷ entries) = option_map (λ xs. x ∷ xs) (all_given entries)
 
--- an entry without its line is `missing`, behind the last line
+-- an entry without its line is `missing`, after the last line
 abbrev pub mapped : ℕ → Option (List Place) → Option (List IfaceId) → Result Mapping TextFault
 mapped line (Some places) (Some plugs) = Ok (record { places = places; plugs = plugs })
 mapped line places plugs = Err (record { line = line; kind = kinds.Missing })

@@ -1,4 +1,4 @@
-// The interfaces of each node, one behind another.
+// The interfaces of each node, one after another.
 ghost use Rattle.std.specs.Prelude.{◌≡◌, ◌<◌, length, IfOk};
 ghost use Rattle.solution_text.specs.Solutions.{iface_on};
 ghost use Rattle.solution_text.specs.Names.{AreListed};

@@ -1,4 +1,4 @@
-// The lines of a solution text, by their fields behind the keyword.
+// The lines of a solution text, by their fields after the keyword.
 ghost use Rattle.std.specs.Prelude.{◌≡◌, option_map};
 ghost use Rattle.lab_base.specs.Texts.{views};
 ghost use Rattle.line_text.specs.Fields.{field_at};
@@ -11,7 +11,7 @@ use line_text::{field_at, name_at, numbered_short, pair_in};
 /// A virtual node, a node and a type.
 pub(crate) type PlaceRead = (Name, (Name, Name));
 
-/// Reads the fields of a `node` line, behind its keyword.
+/// Reads the fields of a `node` line, after its keyword.
 pub(crate) fn place_in(fields: &[&[u8]]) -> Result<PlaceRead, Kind>
     ensures { result ≡ place_line (views fields.now) }
 {
@@ -51,7 +51,7 @@ fn pair_at(fields: &[&[u8]]) -> Result<(Name, Name), Kind>
 /// An end by its virtual node and number, and an interface by its node and name.
 pub(crate) type PlugRead = ((Name, u16), (Name, Name));
 
-/// Reads the fields of a `plug` line, behind its keyword.
+/// Reads the fields of a `plug` line, after its keyword.
 pub(crate) fn plug_in(fields: &[&[u8]]) -> Result<PlugRead, Kind>
     ensures { result ≡ plug_line (views fields.now) }
 {

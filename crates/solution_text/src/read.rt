@@ -110,7 +110,7 @@ fn missing_at(line: u32) -> TextRefused
     })
 }
 
-/// The mapping of the given places and plugs, if none is missing. `line` is the number behind the text's last line.
+/// The mapping of the given places and plugs, if none is missing. `line` is the number after the text's last line.
 fn mapping_of(alloc: Global, line: u32, given: &Given) -> Result<Mapping, TextRefused>
     ensures { Reads result (mapped line (all_given given.now.places) (all_given given.now.plugs)) }
 {

@@ -151,7 +151,7 @@ impl Manager {
         }
     }
 
-    /// Appends the plan's Begin, and holds the swap behind it. It takes no memory: the room for 16 swaps is the manager's own.
+    /// Appends the plan's Begin, and holds the swap after it. It takes no memory: the room for 16 swaps is the manager's own.
     pub fn open<P: Plant>(
         &mut self,
         planned: Planned,

@@ -42,8 +42,8 @@ both_any : (side : Side) (more : List Event) → list_any (is_sync_of side) (bot
 both_any A more = refl
 both_any B more = refl
 
-synced_behind : (steps more : List Event) → steps ≡ both_synced ++ more → are_synced steps ≡ true
-synced_behind steps more is = ap are_synced is ∙ (λ i. both_any A more i && both_any B more i)
+synced_after : (steps more : List Event) → steps ≡ both_synced ++ more → are_synced steps ≡ true
+synced_after steps more is = ap are_synced is ∙ (λ i. both_any A more i && both_any B more i)
 
 -- HOW FAR IT CAME: both sides are synced, or what they read as is untouched
 came : (far : Far) → ((more : List Event) × (far_steps far ≡ both_synced ++ more)) ⊎ ((far ≡ AtStart) ⊎ (far ≡ OneSynced))
@@ -57,7 +57,7 @@ pub opened_alike : (trace steps : List Event) (result : Result (Journal × Vec F
 opened_alike trace steps result o possible =
     let opens = o.opens in
     ⊎_elim
-    (λ (both : (more : List Event) × (far_steps opens.far ≡ both_synced ++ more)). o.settled (synced_behind steps (both.0 ++ opens.more) (opens.steps_are ∙ ap (λ l. l ++ opens.more) both.1)) (disk A (trace ++ steps)).reads (disk B (trace ++ steps)).reads possible)
+    (λ (both : (more : List Event) × (far_steps opens.far ≡ both_synced ++ more)). o.settled (synced_after steps (both.0 ++ opens.more) (opens.steps_are ∙ ap (λ l. l ++ opens.more) both.1)) (disk A (trace ++ steps)).reads (disk B (trace ++ steps)).reads possible)
     (λ early. let last = opening_last result _ _ opens.far opens.more opens.ends in
     let same : (side : Side) → (disk side (trace ++ steps)).reads ≡ (disk side trace).reads = λ side. ap (λ (d : Disk). d.reads) (disk_more side trace steps) ∙ ap (λ l. (fold (disk_after side) (disk side trace) l).reads) opens.steps_are ∙ still side (disk side trace) opens.far opens.more early last in
     alike_same _ _ _ _ (same A) (same B))

@@ -22,10 +22,10 @@ closes_as t told steps P Q each c = record {
   images = some_weaker told (λ w. Images t w.trace steps (P steps)) (λ w. Images t w.trace steps (Q steps)) (λ w images sound a b possible. let i = images sound a b possible in (i.0, i.1, each i.0 i.2)) c.images;
 }
 
--- behind steps that keep a trace sound
-pub closes_behind : (t : Texts) (was now : Option Told) (front behind : List Event) (P Q : List Event → LabState → Type 0) → now ≡ with_steps was front → IfSome was (λ w. IsSound t w.trace → IsSound t (w.trace ++ front))
+-- after steps that keep a trace sound
+pub closes_after : (t : Texts) (was now : Option Told) (front behind : List Event) (P Q : List Event → LabState → Type 0) → now ≡ with_steps was front → IfSome was (λ w. IsSound t w.trace → IsSound t (w.trace ++ front))
     → ((lab : LabState) → P behind lab → Q (front ++ behind) lab) → Closes t now behind P → Closes t was (front ++ behind) Q
-closes_behind t was now front behind P Q told sound each c = record {
+closes_after t was now front behind P Q told sound each c = record {
   after = c.after;
   is = each c.after c.is;
   images = if_both was (λ w. IsSound t w.trace → IsSound t (w.trace ++ front)) (λ w. Images t (w.trace ++ front) behind (P behind)) (λ w. Images t w.trace (front ++ behind) (Q (front ++ behind)))

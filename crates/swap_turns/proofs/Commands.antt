@@ -1,4 +1,4 @@
--- The answer of one command, the course behind it, and the steps that it adds to a trace.
+-- The answer of one command, the course after it, and the steps that it adds to a trace.
 use Rattle.std.proofs.Common.{ℕ, ◌≡◌, ◌⊎◌, inl, ◌+◌, ◌<◌, ◌≤◌, Bool, true, false, cond, eqb, List, [], ◌∷◌, Option, Some, None, Result, Ok, Err, refl, sym, ap, ◌∙◌, subst, arith}
 use Rattle.std.proofs.lemmas.Bool.{eqb-false}
 use Rattle.std.proofs.lemmas.Option.{same_Some}

@@ -40,7 +40,7 @@ use Rattle.swap_turns.proofs.Finishing.{onward_swap}
 same_op : (a b : DeviceOp) (x y : Bool) (p q : Result Answer Fault) → Did a x p ≡ Did b y q → a ≡ b
 same_op a b x y p q is = cc
 
--- a world is as itself, and as the one behind steps that are no device commands
+-- a world is as itself, and as the one after steps that are no device commands
 pub same_world : (lab : Lab) (e : Experiment) (w : World) → SameFor lab e w w
 same_world lab e w = record { rows = λ row of_e. refl; nodes = λ name claims. refl }
 
@@ -98,7 +98,7 @@ module _ (lab : Lab) (e : Experiment) where
     halted_own steps (before left sent) = course_own left steps sent
     halted_own steps (within front left op applied sent comes is) = then_own front steps left op applied (Err answers.Stopped) sent comes is
 
--- THE STEPS OF TURNS, each behind the course so far
+-- THE STEPS OF TURNS, each after the course so far
 module _ (s : LabState) (e : Experiment) where
   abbrev pub OfIt : List Event → Type 0
   OfIt steps = AreOwn (lab_in s.lab) e steps

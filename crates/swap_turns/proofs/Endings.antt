@@ -1,4 +1,4 @@
--- The trace behind an append that ended, failed or stopped.
+-- The trace after an append that ended, failed or stopped.
 use Rattle.std.proofs.Common.{◌≡◌, ◌⊎◌, inl, inr, ℕ, Bool, false, List, [], ◌∷◌, ◌++◌, Result, refl, sym, ap, ◌∙◌, subst, append_assoc}
 use Rattle.std.proofs.lemmas.List.{append-nil}
 use Rattle.plant.specs.Events.{Event, Missed}

@@ -28,7 +28,7 @@ longer_none j = omega arith
 pub longer_did : (j k : Journal) (op : DeviceOp) (applied : Bool) (answer : Result Answer Fault) → k ≡ j → IsLonger j k (Did op applied answer ∷ [])
 longer_did j k op applied answer same = omega (arith, ap length_of same)
 
--- one behind the other
+-- one after the other
 pub longer_on : (i j k : Journal) (a b : List Event) → IsLonger i j a → IsLonger j k b → IsLonger i k (a ++ b)
 longer_on i j k a b first then = omega (arith, first, then, appended_both a b)
 

@@ -28,7 +28,7 @@ use Rattle.journal_disk.specs.declared.fault.CompactFault.{CompactFault}
 use Rattle.journal_disk.specs.declared.journal.Journal.{Journal}
 use Rattle.journal_disk.specs.Standing.{side_of, length_of}
 use Rattle.journal_disk.specs.Epochs.{HasEpoch}
-use Rattle.journal_disk.specs.Compacting.{poured, Come, Untouched, Closing, Closed, Cutting, Emptied, Filling, Filled, Raising, InUse, shutting, emptying, filling, come_steps}
+use Rattle.journal_disk.specs.Compacting.{text_writes, Come, Untouched, Closing, Closed, Cutting, Emptied, Filling, Filled, Raising, InUse, shutting, emptying, filling, come_steps}
 use Rattle.journal_disk.specs.Compactions.{Compacts, Shifts}
 use Rattle.journal_disk.proofs.LastSteps.{compact_last}
 use Rattle.swap_turns.specs.Pieces.{is_command, is_miss, is_outer, has_command, has_miss, has_outer}
@@ -60,34 +60,34 @@ module _ (p : Event → Bool) (misses : Misses p) (side : Side) where
   a_cut : NoneIs p (Cut side 1 ∷ [])
   a_cut = ap (λ b. b || false) (misses.cut side 1)
 
-  no_poured : (at : ℕ) (pieces : List (List ℕ)) → NoneIs p (poured side at pieces)
+  no_poured : (at : ℕ) (pieces : List (List ℕ)) → NoneIs p (text_writes side at pieces)
   no_poured at [] = refl
   no_poured at (piece ∷ pieces) = (λ i. misses.wrote side at piece i || no_poured (at + length piece) pieces i)
 
-  no_shutting : (unshut : Bool) → NoneIs p (shutting side unshut)
+  no_shutting : (to_close : Bool) → NoneIs p (shutting side to_close)
   no_shutting true = both (Wrote side 0 (0 ∷ []) ∷ []) (Synced side ∷ []) (a_write 0 (0 ∷ [])) a_sync
   no_shutting false = refl
 
-  no_emptying : (unshut : Bool) → NoneIs p (emptying side unshut)
-  no_emptying unshut = both (shutting side unshut) (Cut side 1 ∷ Synced side ∷ []) (no_shutting unshut) (both (Cut side 1 ∷ []) (Synced side ∷ []) a_cut a_sync)
+  no_emptying : (to_close : Bool) → NoneIs p (emptying side to_close)
+  no_emptying to_close = both (shutting side to_close) (Cut side 1 ∷ Synced side ∷ []) (no_shutting to_close) (both (Cut side 1 ∷ []) (Synced side ∷ []) a_cut a_sync)
 
-  no_filling : (unshut : Bool) (pieces : List (List ℕ)) → NoneIs p (filling side unshut pieces)
-  no_filling unshut pieces = both (emptying side unshut) (poured side 1 pieces) (no_emptying unshut) (no_poured 1 pieces)
+  no_filling : (to_close : Bool) (pieces : List (List ℕ)) → NoneIs p (filling side to_close pieces)
+  no_filling to_close pieces = both (emptying side to_close) (text_writes side 1 pieces) (no_emptying to_close) (no_poured 1 pieces)
 
   raises : (byte : ℕ) → NoneIs p (Synced side ∷ Wrote side 0 (byte ∷ []) ∷ [])
   raises byte = both (Synced side ∷ []) (Wrote side 0 (byte ∷ []) ∷ []) a_sync (a_write 0 (byte ∷ []))
 
-  no_step : (unshut : Bool) (far : Come) → NoneIs p (come_steps side unshut far)
-  no_step unshut Untouched = refl
-  no_step unshut (Closing byte) = a_write 0 (byte ∷ [])
-  no_step unshut Closed = no_shutting unshut
-  no_step unshut Cutting = both (shutting side unshut) (Cut side 1 ∷ []) (no_shutting unshut) a_cut
-  no_step unshut Emptied = no_emptying unshut
-  no_step unshut (Filling pieces) = no_filling unshut pieces
-  no_step unshut (Filled pieces) = both (filling side unshut pieces) (Synced side ∷ []) (no_filling unshut pieces) a_sync
-  no_step unshut (Raising pieces byte) = both (filling side unshut pieces) (Synced side ∷ Wrote side 0 (byte ∷ []) ∷ []) (no_filling unshut pieces) (raises byte)
-  no_step unshut (InUse pieces) =
-      both (filling side unshut pieces) (Synced side ∷ Wrote side 0 (165 ∷ []) ∷ Synced side ∷ []) (no_filling unshut pieces)
+  no_step : (to_close : Bool) (far : Come) → NoneIs p (come_steps side to_close far)
+  no_step to_close Untouched = refl
+  no_step to_close (Closing byte) = a_write 0 (byte ∷ [])
+  no_step to_close Closed = no_shutting to_close
+  no_step to_close Cutting = both (shutting side to_close) (Cut side 1 ∷ []) (no_shutting to_close) a_cut
+  no_step to_close Emptied = no_emptying to_close
+  no_step to_close (Filling pieces) = no_filling to_close pieces
+  no_step to_close (Filled pieces) = both (filling side to_close pieces) (Synced side ∷ []) (no_filling to_close pieces) a_sync
+  no_step to_close (Raising pieces byte) = both (filling side to_close pieces) (Synced side ∷ Wrote side 0 (byte ∷ []) ∷ []) (no_filling to_close pieces) (raises byte)
+  no_step to_close (InUse pieces) =
+      both (filling side to_close pieces) (Synced side ∷ Wrote side 0 (165 ∷ []) ∷ Synced side ∷ []) (no_filling to_close pieces)
       (both (Synced side ∷ Wrote side 0 (165 ∷ []) ∷ []) (Synced side ∷ []) (raises 165) a_sync)
 
 no_command : Misses is_command

@@ -13,7 +13,7 @@ pub record IsWhole (s : LabState) (r : Record) (move : Move) (steps : List Event
   pub steps_are : steps ≡ added side gate r All
   pub moves : moved s move ≡ Some after
 
--- a part of it, and those steps behind: the lab is that before the record, or that after it
+-- a part of it, and those steps after: the lab is that before the record, or that after it
 pub record IsBroken (behind : Side → List Event) (s : LabState) (r : Record) (move : Move) (steps : List Event) (after : LabState) : Type 0 where
   pub side : Side
   pub gate : ℕ
@@ -23,7 +23,7 @@ pub record IsBroken (behind : Side → List Event) (s : LabState) (r : Record) (
   pub moves : moved s move ≡ Some state
   pub either : (after ≡ s) ⊎ (after ≡ state)
 
--- a call that failed stands behind, or nothing
+-- a call that failed stands after, or nothing
 abbrev pub missed : Side → List Event
 missed side = Missed side ∷ []
 

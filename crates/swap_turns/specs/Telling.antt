@@ -27,9 +27,9 @@ progress_of (swap.Stuck what) = progress.Stuck what
 progress_of swap.Stopped = progress.Stopped
 
 -- the end of the swap, where its last record is durable
-abbrev pub end_of : Progress → Option Over
-end_of (progress.Ended ended) = Some ended
-end_of result = None
+abbrev pub over_of : Progress → Option Over
+over_of (progress.Ended ended) = Some ended
+over_of result = None
 
 -- the swap is open no more
 abbrev pub IsClosed : Progress → Type 0

@@ -19,11 +19,11 @@ pub enum Progress {
 }
 
 impl Progress {
-    ghost use Rattle.swap_turns.specs.Telling.{end_of};
+    ghost use Rattle.swap_turns.specs.Telling.{over_of};
 
     /// The end of the swap, if its last record is durable.
     pub fn ended(&self) -> Option<Ended>
-        ensures { result ≡ end_of self.now }
+        ensures { result ≡ over_of self.now }
     {
         match self {
             Progress::Ended(ended) => Some(*ended),

@@ -1,6 +1,6 @@
 mod Knowing
 mod Others
-mod Places
+mod Positions
 mod Quiet
 mod Rooms
 mod Standing

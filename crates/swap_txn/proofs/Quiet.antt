@@ -43,7 +43,7 @@ append_quiet lab e r was now j k answer w =
       | inr is ↦ subst (λ m. IsQuiet lab e (added (side_of j) (gate_of j) r a.run ++ m)) (sym is) q.1
     ]
 
--- the world is the same behind quiet steps
+-- the world is the same after quiet steps
 pub quiet_world : (lab : Lab) (e : Experiment) (trace steps : List Event) → IsQuiet lab e steps → world_of (trace ++ steps) ≡ world_of trace
 quiet_world lab e trace steps quiet = fold-append world_after blank trace steps ∙ quiet.1 (world_of trace)
 

@@ -13,7 +13,7 @@ use Rattle.lab_model.specs.Courses.{Plan, Left, Watch, next, answered, device, f
 use Rattle.swap_txn.specs.States.{stage_of}
 use Rattle.swap_txn.specs.Troubles.{GoesBy, LeadsBy}
 use Rattle.swap_txn.specs.declared.stage.Stage.TheVariants.{Boot as IsBoot, Done as IsDone}
-use Rattle.swap_txn.proofs.Places.{boots_are}
+use Rattle.swap_txn.proofs.Positions.{boots_are}
 
 -- a listed command
 pub listed_goes : (old new : Left) (answer : Answer) → 0 < length old.todo → new ≡ record old { todo = drop 1 old.todo } → GoesBy old answer (Ok tt) new

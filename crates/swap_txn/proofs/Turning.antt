@@ -1,4 +1,4 @@
--- A command and a record, and the swap behind each.
+-- A command and a record, and the swap after each.
 use Rattle.std.proofs.Common.{◌≡◌, ℕ, Bool, true, false, cond, List, [], ◌∷◌, Option, Some, None, IsSome, Result, Ok, Err, refl, sym, ap, ◌∙◌, subst, arith}
 use Rattle.std.proofs.lemmas.Bool.Decides.{nat_tests}
 use Rattle.lab_base.specs.declared.what.What.{What}
@@ -22,7 +22,7 @@ use Rattle.swap_txn.specs.Steps.{Commanded, Sends, Writes}
 use Rattle.swap_txn.specs.Troubles.{what_of, LeadsBy}
 use Rattle.swap_txn.specs.Turns.{view_of, with_view, state_at, state_of, same_state, last_of, ended_of, CutBy, SentBy, EndedBy, TurnOf, sends, writes, moved, turned_by, TurnsBy, Turns, HasRoom, FitsBy, Fits, HasWork}
 use Rattle.swap_txn.specs.Going.{CutBack, StaysAt, IfStuck, IsName}
-use Rattle.swap_txn.proofs.Places.{boots_are}
+use Rattle.swap_txn.proofs.Positions.{boots_are}
 
 -- WHERE NOTHING IS LEFT
 pub finished : (plan : Plan) (left : Left) → stage_of plan left ≡ Done → left ≡ nothing_left

@@ -15,7 +15,7 @@ use Rattle.swap_txn.specs.declared.watched.Watched.{Watched}
 use Rattle.swap_txn.specs.States.{stage_of}
 use Rattle.swap_txn.specs.Troubles.{GoesBy, LeadsBy, told_by, what_of}
 use Rattle.swap_txn.specs.Views.{watch_of, left_of, IsAt, WatchBy, IsSeenBy}
-use Rattle.swap_txn.proofs.Places.{boot_left}
+use Rattle.swap_txn.proofs.Positions.{boot_left}
 
 module _ (old new : Watched) (result : Result Bool What) (node : new.node ≡ old.node) (boot : List (List ℕ)) where
   abbrev before : Watch
@@ -112,13 +112,13 @@ module _ (new old : Watched) (boot : List (List ℕ)) (state : Boot) where
       by Halted h = absurd h
 
 -- a poll in a course that is sent
-module _ (plan : Plan) (stage : Stage) (at : ℕ) (watched : Option Watched) (old : Left) (w new : Watched) (state : Boot) (place : IsAt plan stage at watched)
+module _ (plan : Plan) (stage : Stage) (at : ℕ) (watched : Option Watched) (old : Left) (w new : Watched) (state : Boot) (position : IsAt plan stage at watched)
     (is : left_of plan stage at watched ≡ old) (boots : stage_of plan old ≡ IsBoot) (some : watched ≡ Some w) where
   boot_stage : stage ≡ IsBoot
-  boot_stage = (boot_left plan stage at watched old place is boots).0
+  boot_stage = (boot_left plan stage at watched old position is boots).0
 
   left_is : old ≡ record { todo = []; boot = drop at plan.boot; watch = watch_of (Some w) }
-  left_is = (boot_left plan stage at watched old place is boots).1 ∙ ap (λ o. record { todo = []; boot = drop at plan.boot; watch = watch_of o }) some
+  left_is = (boot_left plan stage at watched old position is boots).1 ∙ ap (λ o. record { todo = []; boot = drop at plan.boot; watch = watch_of o }) some
 
   new_is : left_of plan stage at (Some new) ≡ record { todo = []; boot = drop at plan.boot; watch = watch_of (Some new) }
   new_is = ap (λ s. left_of plan s at (Some new)) boot_stage

@@ -1,4 +1,4 @@
--- A command of a swap with work left, and the swap behind it.
+-- A command of a swap with work left, and the swap after it.
 use Rattle.std.specs.Prelude.{◌≡◌, Option, Some, None}
 use Rattle.lab_base.specs.declared.what.What.{What}
 use Rattle.swap_txn.specs.declared.live.Live.{Live}

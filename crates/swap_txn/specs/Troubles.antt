@@ -21,7 +21,7 @@ told_by node seen.Up = Ok true
 told_by node seen.TooLong = Err (Late node)
 told_by node seen.Wait = Ok false
 
--- how a course leads on behind an answer: what is left; or its trouble, with all left but for the watch
+-- how a course leads on after an answer: what is left; or its trouble, with all left but for the watch
 abbrev pub LeadsBy : Left → Course → Result (Unit {0}) What → Left → Type 0
 LeadsBy old (Going left) result new = (result ≡ Ok tt) × (new ≡ left)
 LeadsBy old (Cut trouble) result new = (result ≡ Err (what_of trouble)) × ((watch : Option Watch) × (new ≡ record old { watch = watch }))

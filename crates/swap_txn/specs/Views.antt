@@ -45,10 +45,10 @@ IsAt plan Boot at (Some w) = w.watch.polls < 64
 IsAt plan Done at watched = watched ≡ None
 IsAt plan stage at watched = (at < count_of plan stage) × (watched ≡ None)
 
--- the place in the plan from which these commands are left, and all nodes to boot
-pub record IsPlace (plan : Plan) (todo : List DeviceOp) (stage : Stage) (at : ℕ) : Type 0 where
+-- the position in the plan from which these commands are left, and all nodes to boot
+pub record IsLeftFrom (plan : Plan) (todo : List DeviceOp) (stage : Stage) (at : ℕ) : Type 0 where
   pub left : left_of plan stage at None ≡ record { todo = todo; boot = plan.boot; watch = None }
-  pub place : IsAt plan stage at None
+  pub position : IsAt plan stage at None
 
 -- what a watched node's state leads to: the node is up, or is polled again, or its trouble
 abbrev pub WatchBy : List (List ℕ) → Course → Result Bool What → Watched → Type 0

@@ -1,5 +1,5 @@
-// A course on its way: its place, and one step of it.
-use crate::place::{after, from_clear, from_node, listed, node_at};
+// A course on its way: its position, and one step of it.
+use crate::position::{after, from_clear, from_node, listed, node_at};
 use crate::stage::Stage;
 use crate::watched::Watched;
 use lab_base::{Boot, What};

@@ -22,7 +22,7 @@ pub(crate) struct WayBack {
 }
 
 impl WayBack {
-    /// The undo of that experiment from its beginning, behind that trouble.
+    /// The undo of that experiment from its beginning, after that trouble.
     pub(crate) fn undoing(self, exp: Name, what: &What) -> Undoing
         requires { IsBody self.abort (records.Abort exp) }
         ensures { result ≡ undone exp (record { plan = self.commands; inside = self.inside }) what.now }

@@ -11,12 +11,12 @@ abbrev pub behind : List Branching → Option (List Branching) → Option (List 
 behind front None = None
 behind front (Some bs) = Some (front ++ bs)
 
-pub behind_one : (front : List Branching) (b : Branching) (o : Option (List Branching)) → behind front (with_branch b o) ≡ behind (front ++ b ∷ []) o
-behind_one front b None = refl
-behind_one front b (Some bs) = ap (λ (xs : List Branching). Some xs) (sym (append_assoc front (b ∷ []) bs))
+pub after_one : (front : List Branching) (b : Branching) (o : Option (List Branching)) → behind front (with_branch b o) ≡ behind (front ++ b ∷ []) o
+after_one front b None = refl
+after_one front b (Some bs) = ap (λ (xs : List Branching). Some xs) (sym (append_assoc front (b ∷ []) bs))
 
-pub behind_all : (front : List Branching) → behind front (Some []) ≡ Some front
-behind_all front = ap (λ (xs : List Branching). Some xs) (append-nil front)
+pub after_all : (front : List Branching) → behind front (Some []) ≡ Some front
+after_all front = ap (λ (xs : List Branching). Some xs) (append-nil front)
 
 -- the words from a place on, one by one
 pub at_word : (ws : List (List ℕ)) (i : ℕ) → i < length ws → drop i ws ≡ slice_index_or ws i [] ∷ drop (i + 1) ws
@@ -73,12 +73,12 @@ no_condition ws b none =
 pub body_of : (ws : List (List ℕ)) (n : ℕ) (body : List ℕ) → body ≡ get_or ws n body → n < length ws → slice_index_or ws n [] ≡ body
 body_of ws n body is less = get_or_default ws n [] body less ∙ sym is
 
--- a branch behind those so far
+-- a branch after those so far
 pub pushed_on : (ws : List (List ℕ)) (bs new : List Branch) (b : Branch) (at : ℕ) → new ≡ bs ++ b ∷ []
     → more_branches (drop at ws) ≡ with_branch (branching_of ws b) (more_branches (drop (b.body + 1) ws))
     → behind (map (branching_of ws) bs) (more_branches (drop at ws)) ≡ branches_of ws → behind (map (branching_of ws) new) (more_branches (drop (b.body + 1) ws)) ≡ branches_of ws
 pushed_on ws bs new b at pushed next so_far =
     let rest : Option (List Branching) = more_branches (drop (b.body + 1) ws) in
     let items : map (branching_of ws) new ≡ map (branching_of ws) bs ++ branching_of ws b ∷ [] = ap (λ (xs : List Branch). map (branching_of ws) xs) pushed ∙ map_push (branching_of ws) bs b in
-    ap (λ (xs : List Branching). behind xs rest) items ∙ (sym (behind_one (map (branching_of ws) bs) (branching_of ws b) rest)
+    ap (λ (xs : List Branching). behind xs rest) items ∙ (sym (after_one (map (branching_of ws) bs) (branching_of ws b) rest)
     ∙ (ap (λ (o : Option (List Branching)). behind (map (branching_of ws) bs) o) (sym next) ∙ so_far))

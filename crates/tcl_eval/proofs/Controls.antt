@@ -16,7 +16,7 @@ use Rattle.tcl_eval.specs.Evals as rules
 use Rattle.tcl_eval.specs.Evals.{Evals}
 use Rattle.tcl_eval.specs.Machines.{seen, Ended, Leads}
 use Rattle.tcl_eval.proofs.Ended.{got, given, faulted, halted, handed, by, leads, leads_on}
-use Rattle.tcl_eval.proofs.WordLists.{behind_command, four_words, five_words}
+use Rattle.tcl_eval.proofs.WordLists.{after_command, four_words, five_words}
 
 -- a variable's new value, in what contracts see
 pub written : {H O : Type 0} (objects : H → O) (m n : Machine H) (name value : List ℕ)
@@ -32,20 +32,20 @@ module _ {O : Type 0} (calls : O → List (List ℕ) → Result Called Kind × O
   pub expr_long : (l : ℕ) (ws : List (List ℕ)) (text : List ℕ) (s : State O) (e : Halt) → own ws ≡ Some owns.Expr → 2 ≤ length ws → text ≡ joined_by (32 ∷ []) (drop 1 ws)
       → (e ≡ Fault kinds.Long) × (65536 < length text) → Ended calls hears Value l (Call ws) s s (Err e)
   expr_long l ws text s e mine some is long =
-      rw long.0 (faulted calls hears Value l (Call ws) s s kinds.Long (behind_command (λ (ws : List (List ℕ)). Evals calls hears l (Call ws) s (fails kinds.Long) s) owns.Expr ws some mine
+      rw long.0 (faulted calls hears Value l (Call ws) s s kinds.Long (after_command (λ (ws : List (List ℕ)). Evals calls hears l (Call ws) s (fails kinds.Long) s) owns.Expr ws some mine
       (λ cmd own more. rules.expr_long own more (subst (λ (x : List ℕ). 65536 < length x) is long.1))))
 
   pub expr_halts : (l : ℕ) (ws : List (List ℕ)) (text : List ℕ) (s u : State O) (e : Halt) → own ws ≡ Some owns.Expr → 2 ≤ length ws → text ≡ joined_by (32 ∷ []) (drop 1 ws)
       → length text ≤ 65536 → Ended calls hears Integer l (Expression text) s u (Err e) → Ended calls hears Value l (Call ws) s u (Err e)
   expr_halts l ws text s u e mine some is short h =
       halted calls hears Integer Value l l (Expression text) (Call ws) s u s u e
-      (λ (h : Halt) (out : Evals calls hears l (Expression text) s (Err h) u). behind_command (λ (ws : List (List ℕ)). Evals calls hears l (Call ws) s (Err h) u) owns.Expr ws some mine
+      (λ (h : Halt) (out : Evals calls hears l (Expression text) s (Err h) u). after_command (λ (ws : List (List ℕ)). Evals calls hears l (Call ws) s (Err h) u) owns.Expr ws some mine
       (λ cmd own more. rules.expr_halts own more (subst (λ (x : List ℕ). length x ≤ 65536) is short) (subst (λ (x : List ℕ). Evals calls hears l (Expression x) s (Err h) u) is out))) h
 
   pub computes : (l : ℕ) (ws : List (List ℕ)) (text v : List ℕ) (s u : State O) (z : ℤ) → own ws ≡ Some owns.Expr → 2 ≤ length ws → text ≡ joined_by (32 ∷ []) (drop 1 ws)
       → length text ≤ 65536 → Ended calls hears Integer l (Expression text) s u (Ok z) → v ≡ signed_decimal z → Ended calls hears Value l (Call ws) s u (Ok v)
   computes l ws text v s u z mine some is short h number =
-      rw number (given calls hears Value l (Call ws) s u (signed_decimal z) (behind_command (λ (ws : List (List ℕ)). Evals calls hears l (Call ws) s (Ok (Value (signed_decimal z))) u) owns.Expr ws some mine
+      rw number (given calls hears Value l (Call ws) s u (signed_decimal z) (after_command (λ (ws : List (List ℕ)). Evals calls hears l (Call ws) s (Ok (Value (signed_decimal z))) u) owns.Expr ws some mine
       (λ cmd own more. rules.computes own more (subst (λ (x : List ℕ). length x ≤ 65536) is short)
       (subst (λ (x : List ℕ). Evals calls hears l (Expression x) s (Ok (Integer z)) u) is (got calls hears Integer l (Expression text) s u z h)))))
 

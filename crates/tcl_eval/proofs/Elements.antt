@@ -6,17 +6,17 @@ use Rattle.lab_base.specs.declared.fault.Kind.TheVariants as kinds
 use Rattle.lab_base.proofs.Lists.{item_at}
 use Rattle.tcl_eval.specs.declared.halts.Halt.{Halt}
 use Rattle.tcl_eval.specs.declared.halts.Halt.TheVariants.{Fault, Memory}
-use Rattle.tcl_eval.specs.Forms.{with_element, listed_on, behind_each, joined_by}
+use Rattle.tcl_eval.specs.Forms.{with_element, listed_on, after_each, joined_by}
 
--- words one behind another
-pub joined_none : (ws : List (List ℕ)) → behind_each [] ws ≡ joined_by [] ws
+-- words one after another
+pub joined_none : (ws : List (List ℕ)) → after_each [] ws ≡ joined_by [] ws
 joined_none [] = refl
 joined_none (w ∷ ws) = refl
 
-pub appended_is : (all value : List ℕ) (ws : List (List ℕ)) (i : ℕ) → length ws ≤ i → all ++ behind_each [] (drop i ws) ≡ value ++ behind_each [] ws
+pub appended_is : (all value : List ℕ) (ws : List (List ℕ)) (i : ℕ) → length ws ≤ i → all ++ after_each [] (drop i ws) ≡ value ++ after_each [] ws
     → all ≡ value ++ joined_by [] ws
 appended_is all value ws i past is =
-    let none : behind_each [] (drop i ws) ≡ [] = ap (λ (rest : List (List ℕ)). behind_each [] rest) (drop_all i ws past) in
+    let none : after_each [] (drop i ws) ≡ [] = ap (λ (rest : List (List ℕ)). after_each [] rest) (drop_all i ws past) in
     sym (append-nil all) ∙ ap (λ (rest : List ℕ). all ++ rest) (sym none) ∙ is ∙ ap (λ (rest : List ℕ). value ++ rest) (joined_none ws)
 
 -- what a value that is too long ends by

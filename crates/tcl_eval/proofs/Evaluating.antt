@@ -5,7 +5,7 @@ use Rattle.std.specs.Fmt.{signed_decimal}
 use Rattle.lab_base.specs.declared.fault.Kind.{Kind}
 use Rattle.lab_base.specs.declared.fault.Kind.TheVariants as kinds
 use Rattle.tcl_words.specs.declared.flaw.Flaw.{Flaw}
-use Rattle.tcl_words.specs.declared.frame.Place.TheVariants.{Start}
+use Rattle.tcl_words.specs.declared.frame.BracketState.TheVariants.{Start}
 use Rattle.tcl_words.specs.declared.frame.Frame.TheVariants as frames
 use Rattle.tcl_words.specs.declared.word.Part.{Part}
 use Rattle.tcl_words.specs.declared.word.Part.TheVariants.{Plain, Escape, Variable, Script}
@@ -34,7 +34,7 @@ use Rattle.tcl_words.proofs.Passing.{passes_once}
 use Rattle.tcl_words.proofs.OneSplitting.{commands_once, reference_once}
 use Rattle.tcl_eval.proofs.OneNumber.{value_once, sum_once, not_once, needed_once, writes_once, applies_once}
 
--- so many levels are left behind n more, or there aren't n
+-- so many levels are left after n more, or there aren't n
 abbrev pub IsBelow : ℕ → ℕ → Option ℕ → Type 0
 IsBelow n l None = l < n
 IsBelow n l (Some k) = k + n ≡ l

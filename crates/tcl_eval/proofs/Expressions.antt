@@ -15,7 +15,7 @@ use Rattle.tcl_eval.specs.Operators.{place, operator_from, opening_of, IsPrefix,
 use Rattle.tcl_eval.specs.declared.openings.Opening.TheVariants.{Not, Minus, Parenthesis, Digits, Dollar, Bracket, Nothing}
 use Rattle.tcl_words.specs.Tokens.{begins_with}
 use Rattle.tcl_words.specs.Passes.{Passes}
-use Rattle.tcl_words.specs.declared.frame.Place.TheVariants.{Start}
+use Rattle.tcl_words.specs.declared.frame.BracketState.TheVariants.{Start}
 use Rattle.tcl_words.specs.declared.frame.Frame.TheVariants as frames
 use Rattle.tcl_words.specs.declared.word.Reference.{Reference}
 use Rattle.tcl_eval.specs.Numbers.{IsNeeded, Applies, IsNot, IsValue, alive, Writes, number_of}

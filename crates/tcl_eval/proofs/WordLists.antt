@@ -41,18 +41,18 @@ five_words P o n v x y (a ∷ b ∷ c ∷ d ∷ e ∷ []) i1 i2 i3 i4 low high m
     (subst (λ (z : List ℕ). P (a ∷ n ∷ v ∷ z ∷ e ∷ [])) i3 (subst (λ (z : List ℕ). P (a ∷ n ∷ v ∷ x ∷ z ∷ [])) i4 (f a mine))))
 five_words P o n v x y (a ∷ b ∷ c ∷ d ∷ e ∷ g ∷ ws) i1 i2 i3 i4 low high mine f = absurd (omega arith)
 
--- a command, its first word, and those behind it
+-- a command, its first word, and those after it
 pub first_word : (P : List (List ℕ) → Type 0) (o : Own) (n : List ℕ) (ws : List (List ℕ)) → n ≡ get_or ws 1 n → 3 ≤ length ws
     → own ws ≡ Some o → ((cmd : List ℕ) → own (cmd ∷ n ∷ drop 2 ws) ≡ Some o → 0 < length (drop 2 ws) → P (cmd ∷ n ∷ drop 2 ws)) → P ws
 first_word P o n [] is low mine f = absurd (omega arith)
 first_word P o n (a ∷ []) is low mine f = absurd (omega arith)
 first_word P o n (a ∷ b ∷ ws) is low mine f = subst (λ (x : List ℕ). P (a ∷ x ∷ ws)) is (f a mine (omega arith))
 
--- a command and those behind it
-pub behind_command : (P : List (List ℕ) → Type 0) (o : Own) (ws : List (List ℕ)) → 2 ≤ length ws
+-- a command and those after it
+pub after_command : (P : List (List ℕ) → Type 0) (o : Own) (ws : List (List ℕ)) → 2 ≤ length ws
     → own ws ≡ Some o → ((cmd : List ℕ) → own (cmd ∷ drop 1 ws) ≡ Some o → 0 < length (drop 1 ws) → P (cmd ∷ drop 1 ws)) → P ws
-behind_command P o [] low mine f = absurd (omega arith)
-behind_command P o (a ∷ ws) low mine f = f a mine (omega arith)
+after_command P o [] low mine f = absurd (omega arith)
+after_command P o (a ∷ ws) low mine f = f a mine (omega arith)
 
 -- neither two nor three
 pub neither : (n : ℕ) → (n < 2) ⊎ (4 ≤ n) → (n ≢ 2) × (n ≢ 3)

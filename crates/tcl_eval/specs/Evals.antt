@@ -5,7 +5,7 @@ use Rattle.std.specs.Fmt.{signed_decimal}
 use Rattle.lab_base.specs.declared.fault.Kind.{Kind}
 use Rattle.lab_base.specs.declared.fault.Kind.TheVariants as kinds
 use Rattle.tcl_words.specs.declared.flaw.Flaw.{Flaw}
-use Rattle.tcl_words.specs.declared.frame.Place.TheVariants.{Start}
+use Rattle.tcl_words.specs.declared.frame.BracketState.TheVariants.{Start}
 use Rattle.tcl_words.specs.declared.frame.Frame.TheVariants as frames
 use Rattle.tcl_words.specs.declared.word.Part.{Part}
 use Rattle.tcl_words.specs.declared.word.Part.TheVariants.{Plain, Escape, Variable, Script}
@@ -58,14 +58,14 @@ pub data Evals {O : Type 0} (calls : O → List (List ℕ) → Result Called Kin
   one : {l : ℕ} {t : List ℕ} {s u w : State O} {c : Command} {ws : List (List ℕ)} {v : List ℕ} → 0 < s.left
       → Evals calls hears l (Words t c.words []) (spent s) (Ok (Texts ws)) u → Evals calls hears l (Call ws) u (Ok (Value v)) w → IsShort v
       → Evals calls hears l (One t c) s (Ok (Value v)) w
-  -- words from left to right, behind the values of those before
+  -- words from left to right, after the values of those before
   no_words : {l : ℕ} {t : List ℕ} {s : State O} {vs : List (List ℕ)} → Evals calls hears l (Words t [] vs) s (Ok (Texts vs)) s
   word : {l : ℕ} {t : List ℕ} {s u w : State O} {word : Word} {words : List Word} {v : List ℕ} {vs : List (List ℕ)} {r : Result Gain Halt}
       → Evals calls hears l (Parts t false word.parts []) s (Ok (Value v)) u → Evals calls hears l (Words t words (vs ++ v ∷ [])) u r w
       → Evals calls hears l (Words t (word ∷ words) vs) s r w
   word_halts : {l : ℕ} {t : List ℕ} {s u : State O} {word : Word} {words : List Word} {vs : List (List ℕ)} {h : Halt}
       → Evals calls hears l (Parts t false word.parts []) s (Err h) u → Evals calls hears l (Words t (word ∷ words) vs) s (Err h) u
-  -- parts from left to right, behind what came of those before
+  -- parts from left to right, after what came of those before
   long_value : {l : ℕ} {t : List ℕ} {i : Bool} {s : State O} {v : List ℕ} → 65536 < length v
       → Evals calls hears l (Parts t i [] v) s (fails kinds.Long) s
   no_parts : {l : ℕ} {t : List ℕ} {i : Bool} {s : State O} {v : List ℕ} → IsShort v → Evals calls hears l (Parts t i [] v) s (Ok (Value v)) s

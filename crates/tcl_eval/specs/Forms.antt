@@ -37,7 +37,7 @@ abbrev pub with_branch : Branching → Option (List Branching) → Option (List 
 with_branch b None = None
 with_branch b (Some bs) = Some (b ∷ bs)
 
--- the branches behind the first: `elseif` with a condition and a body, and at the end perhaps `else` with a body
+-- the branches after the first: `elseif` with a condition and a body, and at the end perhaps `else` with a body
 abbrev pub more_branches : List (List ℕ) → Option (List Branching)
 more_branches [] = Some []
 more_branches (k ∷ []) = None
@@ -51,15 +51,15 @@ branches_of (i ∷ []) = None
 branches_of (i ∷ c ∷ []) = None
 branches_of (i ∷ c ∷ b ∷ rest) = with_branch (Some c, b) (more_branches rest)
 
--- each word behind this
-abbrev pub behind_each : List ℕ → List (List ℕ) → List ℕ
-behind_each between [] = []
-behind_each between (w ∷ ws) = between ++ w ++ behind_each between ws
+-- each word after this
+abbrev pub after_each : List ℕ → List (List ℕ) → List ℕ
+after_each between [] = []
+after_each between (w ∷ ws) = between ++ w ++ after_each between ws
 
 -- words joined by this
 abbrev pub joined_by : List ℕ → List (List ℕ) → List ℕ
 joined_by between [] = []
-joined_by between (w ∷ ws) = w ++ behind_each between ws
+joined_by between (w ∷ ws) = w ++ after_each between ws
 
 -- a byte between the elements of a list
 abbrev pub is_between : ℕ → Bool
@@ -87,7 +87,7 @@ is_plain b = not (is_special b)
 abbrev pub is_element : List ℕ → Bool
 is_element word = nat_lt 0 (length word) && list_all is_plain word
 
--- a word put into a list behind a blank, or without the blank where the list is empty
+-- a word put into a list after a blank, or without the blank where the list is empty
 abbrev pub with_element : List ℕ → List ℕ → Result (List ℕ) Kind
 with_element list word =
     if is_element word then

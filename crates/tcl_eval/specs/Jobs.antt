@@ -10,12 +10,12 @@ use Rattle.tcl_eval.specs.Forms.{Branching}
 
 -- what is evaluated
 pub data Job : Type 0 where
-  -- a text, one level deeper or here; its commands from one on, behind this result; one of them
+  -- a text, one level deeper or here; its commands from one on, after this result; one of them
   Nested : (text : List ℕ) → Job
   Whole : (text : List ℕ) → Job
   Commands : (text : List ℕ) → (rest : List Command) → (result : List ℕ) → Job
   One : (text : List ℕ) → (command : Command) → Job
-  -- words and parts behind what came of those before, and a variable at its place; inside an index or not
+  -- words and parts after what came of those before, and a variable at its place; inside an index or not
   Words : (text : List ℕ) → (rest : List Word) → (values : List (List ℕ)) → Job
   Parts : (text : List ℕ) → (in_index : Bool) → (rest : List Part) → (value : List ℕ) → Job
   Named : (text : List ℕ) → (at : ℕ) → (in_index : Bool) → Job
@@ -32,7 +32,7 @@ pub data Job : Type 0 where
   Chain : (text : List ℕ) → (at tier : ℕ) → (live : Bool) → (left : ℤ) → Job
   Operand : (text : List ℕ) → (at : ℕ) → (live : Bool) → Job
 
--- what comes of it: a value, words, a number or a truth; a value or a number with the place behind it
+-- what comes of it: a value, words, a number or a truth; a value or a number with the place after it
 pub data Gain : Type 0 where
   Value : List ℕ → Gain
   Texts : List (List ℕ) → Gain
@@ -50,12 +50,12 @@ abbrev pub value_or : Result (List ℕ) Kind → Result Gain Halt
 value_or (Ok v) = Ok (Value v)
 value_or (Err k) = fails k
 
--- a value and the place behind it, or its fault
+-- a value and the place after it, or its fault
 abbrev pub value_at : Result (List ℕ) Kind → ℕ → Result Gain Halt
 value_at (Ok v) end = Ok (ValueAt v end)
 value_at (Err k) end = fails k
 
--- a number and the place behind it, or its fault
+-- a number and the place after it, or its fault
 abbrev pub integer_at : Result ℤ Kind → ℕ → Result Gain Halt
 integer_at (Ok z) end = Ok (IntegerAt z end)
 integer_at (Err k) end = fails k

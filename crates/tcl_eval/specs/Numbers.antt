@@ -8,7 +8,7 @@ use Rattle.lab_base.specs.declared.fault.Kind.TheVariants as kinds
 use Rattle.tcl_eval.specs.declared.operators.Operator.{Operator}
 use Rattle.tcl_eval.specs.declared.operators.Operator.TheVariants.{Or, And, Equal, Unequal, AtMost, AtLeast, Below, Above, Plus, Minus, Times, Over, Modulo}
 
--- the number of digits behind those of n
+-- the number of digits after those of n
 abbrev pub value_from : ℕ → List ℕ → ℕ
 value_from n [] = n
 value_from n (d ∷ ds) = value_from (n * 10 + (d - 48)) ds

@@ -8,7 +8,7 @@ use Rattle.tcl_eval.specs.declared.operators.Operator.TheVariants.{Or, And, Equa
 use Rattle.tcl_eval.specs.declared.openings.Opening.{Opening}
 use Rattle.tcl_eval.specs.declared.openings.Opening.TheVariants as openings
 
--- the place behind the blanks at a place
+-- the place after the blanks at a place
 abbrev pub place : List ℕ → ℕ → ℕ
 place t at = at + prefix_len in_blank (drop at t)
 
@@ -39,12 +39,12 @@ front_of (b ∷ rest) =
     else (if b == 45 then Some (Minus, 1) else (if b == 42 then Some (Times, 1) else (if b == 47 then Some (Over, 1)
     else (if b == 37 then Some (Modulo, 1) else None))))))))))))
 
--- an operator of this tier, and the place behind it
+-- an operator of this tier, and the place after it
 abbrev pub of_tier : ℕ → ℕ → Option (Operator × ℕ) → Option (Operator × ℕ)
 of_tier tier start None = None
 of_tier tier start (Some x) = if tier_of x.0 == tier then Some (x.0, start + x.1) else None
 
--- the operator of this tier behind the blanks at a place, and the place behind it
+-- the operator of this tier after the blanks at a place, and the place after it
 abbrev pub operator_from : List ℕ → ℕ → ℕ → Option (Operator × ℕ)
 operator_from t at tier = of_tier tier (place t at) (front_of (drop (place t at) t))
 

@@ -56,7 +56,7 @@ fn elseif_branch(words: &[Text], at: usize) -> Option<Branch>
     }
 }
 
-/// The branch at a place behind the first one.
+/// The branch at a place after the first one.
 fn branch_at(words: &[Text], at: usize) -> Option<Branch>
     requires { at < length words.now }
     ensures branch { MatchOption result (more_branches (drop at words.now) ≡ None)

@@ -18,7 +18,7 @@ use crate::literals::literal;
 use crate::machine::Machine;
 use crate::numbers::{number_in, number_text};
 use crate::openings::{Opening, closes_at, opening_at};
-use crate::operators::{TIERS, alive, behind_blanks, holds, negated, operator_at, turned};
+use crate::operators::{TIERS, after_blanks, alive, holds, negated, operator_at, turned};
 use lab_base::{Kind, TEXT_LIMIT, Text};
 use tcl_words::{Command, Part, reference_at, script_end, split};
 
@@ -117,7 +117,7 @@ impl<H: Host> Machine<H> {
         short(value)
     }
 
-    /// The value of the variable at a `$`, and the place behind it.
+    /// The value of the variable at a `$`, and the place after it.
     #[cycle(eval)]
     fn variable(
         &mut self,
@@ -287,13 +287,13 @@ impl<H: Host> Machine<H> {
         ensures left { self.new.left ≤ self.old.left }
     {
         let (value, end) = self.tier(text, 0, 0, levels, line, live)?;
-        if behind_blanks(text, end) < text.len() {
+        if after_blanks(text, end) < text.len() {
             return Err(Halt::Fault(Kind::Syntax));
         }
         Ok(value)
     }
 
-    /// The value of operands joined by operators of this tier and tighter ones, and the place behind them. Where it isn't live nothing is evaluated,
+    /// The value of operands joined by operators of this tier and tighter ones, and the place after them. Where it isn't live nothing is evaluated,
     /// and the value is 0.
     #[cycle(eval)]
     fn tier(
@@ -314,7 +314,7 @@ impl<H: Host> Machine<H> {
         ensures forward { IfOk result (λ found. (at < found.1) × (found.1 ≤ length text.now)) }
     {
         if tier == TIERS {
-            return self.operand(text, behind_blanks(text, at), levels, line, live);
+            return self.operand(text, after_blanks(text, at), levels, line, live);
         }
         let (mut left, mut at) = self.tier(text, at, tier + 1, levels, line, live)?;
         while let Some((operator, start)) = operator_at(text, at, tier) {
@@ -328,7 +328,7 @@ impl<H: Host> Machine<H> {
         Ok((left, at))
     }
 
-    /// The value of the operand at a place, and the place behind it.
+    /// The value of the operand at a place, and the place after it.
     #[cycle(eval)]
     fn operand(
         &mut self,
@@ -375,7 +375,7 @@ impl<H: Host> Machine<H> {
         ensures forward { IfOk result (λ found. (at < found.1) × (found.1 ≤ length text.now)) }
     {
         let levels = deeper(levels)?;
-        let (value, end) = self.operand(text, behind_blanks(text, at + 1), levels, line, live)?;
+        let (value, end) = self.operand(text, after_blanks(text, at + 1), levels, line, live)?;
         Ok((alive(turned(value), live), end))
     }
 
@@ -398,7 +398,7 @@ impl<H: Host> Machine<H> {
         ensures forward { IfOk result (λ found. (at < found.1) × (found.1 ≤ length text.now)) }
     {
         let levels = deeper(levels)?;
-        let (value, end) = self.operand(text, behind_blanks(text, at + 1), levels, line, live)?;
+        let (value, end) = self.operand(text, after_blanks(text, at + 1), levels, line, live)?;
         Ok((negated(value)?, end))
     }
 
@@ -422,7 +422,7 @@ impl<H: Host> Machine<H> {
     {
         let levels = deeper(levels)?;
         let (value, end) = self.tier(text, at + 1, 0, levels, line, live)?;
-        let end = behind_blanks(text, end);
+        let end = after_blanks(text, end);
         if !closes_at(text, end) {
             return Err(Halt::Fault(Kind::Syntax));
         }

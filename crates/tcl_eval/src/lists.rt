@@ -51,7 +51,7 @@ fn element_start(list: &[u8], at: usize) -> usize
     at + between_size(&list[at..])
 }
 
-/// The place behind the element at a place.
+/// The place after the element at a place.
 fn element_end(list: &[u8], at: usize) -> usize
     requires { at ≤ length list.now }
     ensures end { result ≡ at + prefix_len is_inside (drop at list.now) }
@@ -60,7 +60,7 @@ fn element_end(list: &[u8], at: usize) -> usize
     at + inside_size(&list[at..])
 }
 
-/// The first element of a list from a place on, by its first place and the place behind it.
+/// The first element of a list from a place on, by its first place and the place after it.
 pub fn element_at(list: &[u8], at: usize) -> Option<(usize, usize)>
     requires { at ≤ length list.now }
     ensures element { result ≡ element_from list.now at }
@@ -134,7 +134,7 @@ pub fn joined(alloc: Global, words: &[Text], between: &[u8]) -> Result<Text, Mem
     Ok(text)
 }
 
-/// The value with these words behind it.
+/// The value with these words after it.
 pub fn appended(value: Text, words: &[Text]) -> Result<Text, Halt>
     ensures value { IfOk result (λ all. (all ≡ value ++ joined_by [] words.now) × (length (value ++ joined_by [] words.now) ≤ MAX_VALUE)) }
     ensures fails { IfErr result (λ halt. (halt ≡ halts.Memory)
@@ -162,7 +162,7 @@ fn with_element(list: Text, word: &[u8]) -> Result<Text, Halt>
     short(list)
 }
 
-/// The list with these words behind it, one after another.
+/// The list with these words after it, one after another.
 pub fn listed(list: Text, words: &[Text]) -> Result<Text, Halt>
     ensures { Gives (λ r. r ≡ listed list words.now) result }
 {

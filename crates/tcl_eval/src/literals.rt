@@ -16,7 +16,7 @@ fn digits_size(rest: &[u8]) -> usize
     rest.iter().take_while(|b| b.is_ascii_digit()).count()
 }
 
-/// The place behind the digits at a place.
+/// The place after the digits at a place.
 fn digits_end(text: &[u8], at: usize) -> usize
     requires { at ≤ length text.now }
     ensures end { result ≡ at + digits_of (drop at text.now) }
@@ -51,7 +51,7 @@ fn written(digits: &[u8], live: bool) -> Result<i64, Kind>
     if live { read_number(digits) } else { Ok(0) }
 }
 
-/// The number of the numeral at a place, and the place behind it.
+/// The number of the numeral at a place, and the place after it.
 pub fn literal(text: &[u8], at: usize, live: bool) -> Result<(i64, usize), Kind>
     requires here { at ≤ length text.now }
     requires digits { opening_of (drop at text.now) ≡ Digits }

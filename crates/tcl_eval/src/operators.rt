@@ -212,8 +212,8 @@ fn blanks_size(rest: &[u8]) -> usize
         .count()
 }
 
-/// The place behind the blanks at a place.
-pub fn behind_blanks(text: &[u8], at: usize) -> usize
+/// The place after the blanks at a place.
+pub fn after_blanks(text: &[u8], at: usize) -> usize
     requires { at ≤ length text.now }
     ensures place { result ≡ place text.now at }
     ensures forward { at ≤ result }
@@ -256,14 +256,14 @@ fn front_operator_at(text: &[u8], at: usize) -> Option<(Operator, usize)>
     front_operator(&text[at..])
 }
 
-/// The operator of this tier behind the blanks at a place, and the place behind it.
+/// The operator of this tier after the blanks at a place, and the place after it.
 pub fn operator_at(text: &[u8], at: usize, tier: u32) -> Option<(Operator, usize)>
     requires { at ≤ length text.now }
     ensures operator { result ≡ operator_from text.now at tier }
     ensures forward { IfSome result (λ found. at < found.1) }
     ensures fits { IfSome result (λ found. found.1 ≤ length text.now) }
 {
-    let start = behind_blanks(text, at);
+    let start = after_blanks(text, at);
     let (operator, size) = front_operator_at(text, start)?;
     if operator.tier() == tier {
         Some((operator, start + size))

@@ -1,17 +1,17 @@
 -- The rules of `Passes` at tokens and sizes that are given by equations, and the stack of what is open.
 use Rattle.std.proofs.Common.{◌≡◌, ℕ, ◌+◌, ◌<◌, ◌⊎◌, inl, inr, List, [], ◌∷◌, Result, Ok, Err, false, length, drop, slice_index, refl, sym, subst}
 use Rattle.tcl_words.specs.declared.flaw.Flaw.{Flaw}
-use Rattle.tcl_words.specs.declared.frame.Place.{Place}
-use Rattle.tcl_words.specs.declared.frame.Place.TheVariants.{Start, Between, Inside, AfterQuote, AfterBrace}
+use Rattle.tcl_words.specs.declared.frame.BracketState.{BracketState}
+use Rattle.tcl_words.specs.declared.frame.BracketState.TheVariants.{Start, Between, Inside, AfterQuote, AfterBrace}
 use Rattle.tcl_words.specs.declared.frame.Frame.{Frame}
 use Rattle.tcl_words.specs.declared.frame.Frame.TheVariants.{Bracket}
 use Rattle.tcl_words.specs.declared.frame.Step.TheVariants.{Goes, Opens}
 use Rattle.tcl_words.specs.declared.tokens.Token.{Token}
 use Rattle.tcl_words.specs.Tokens.{token_of, token_size, blank_of, comment_from}
-use Rattle.tcl_words.specs.Passes.{behind_blank, IsBefore, GoesOn, IsPlain, Passes, plain, blank, comment, Leads}
+use Rattle.tcl_words.specs.Passes.{after_blank, IsBefore, GoesOn, IsPlain, Passes, plain, blank, comment, Leads}
 
 -- a place that is none of the others
-pub is_before : (place : Place) → (place ≡ AfterQuote → ⊥) → (place ≡ AfterBrace → ⊥) → (place ≡ Inside → ⊥) → IsBefore place
+pub is_before : (bracket_state : BracketState) → (bracket_state ≡ AfterQuote → ⊥) → (bracket_state ≡ AfterBrace → ⊥) → (bracket_state ≡ Inside → ⊥) → IsBefore bracket_state
 is_before Start a b c = tt
 is_before Between a b c = tt
 is_before Inside a b c = absurd (c refl)
@@ -24,15 +24,15 @@ module _ (t : List ℕ) where
   plain_at f g i k o on is p rest =
       plain f g i o on (subst IsPlain is p) (subst (λ (k : Token). Passes t g (i + token_size k) o) is rest)
 
-  pub blank_at : (p : ℕ) (place : Place) (i n : ℕ) (o : Result ℕ Flaw) → n ≡ blank_of (drop i t) → 0 < n
-      → Passes t (Bracket p (behind_blank place)) (i + n) o → Passes t (Bracket p place) i o
-  blank_at p place i n o is some rest =
-      blank p place i o (subst (λ (n : ℕ). 0 < n) is some) (subst (λ (n : ℕ). Passes t (Bracket p (behind_blank place)) (i + n) o) is rest)
+  pub blank_at : (p : ℕ) (bracket_state : BracketState) (i n : ℕ) (o : Result ℕ Flaw) → n ≡ blank_of (drop i t) → 0 < n
+      → Passes t (Bracket p (after_blank bracket_state)) (i + n) o → Passes t (Bracket p bracket_state) i o
+  blank_at p bracket_state i n o is some rest =
+      blank p bracket_state i o (subst (λ (n : ℕ). 0 < n) is some) (subst (λ (n : ℕ). Passes t (Bracket p (after_blank bracket_state)) (i + n) o) is rest)
 
-  pub comment_on : (p : ℕ) (place : Place) (i n : ℕ) (o : Result ℕ Flaw) → place ≡ Start → i < length t → slice_index t i ≡ 35 → n ≡ comment_from false (drop i t)
-      → Passes t (Bracket p Start) (i + n) o → Passes t (Bracket p place) i o
-  comment_on p place i n o start here byte is rest =
-      subst (λ (s : Place). Passes t (Bracket p s) i o) (sym start)
+  pub comment_on : (p : ℕ) (bracket_state : BracketState) (i n : ℕ) (o : Result ℕ Flaw) → bracket_state ≡ Start → i < length t → slice_index t i ≡ 35 → n ≡ comment_from false (drop i t)
+      → Passes t (Bracket p Start) (i + n) o → Passes t (Bracket p bracket_state) i o
+  comment_on p bracket_state i n o start here byte is rest =
+      subst (λ (s : BracketState). Passes t (Bracket p s) i o) (sym start)
       (comment p i o here byte (subst (λ (n : ℕ). Passes t (Bracket p Start) (i + n) o) is rest))
 
   -- The outer frames are open, the innermost first. In the inner one the text goes on to this end of them all.

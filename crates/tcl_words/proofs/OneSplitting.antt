@@ -5,7 +5,7 @@ use Rattle.std.proofs.lemmas.List.{get_or-drop}
 use Rattle.lab_base.specs.declared.fault.Kind.TheVariants as kinds
 use Rattle.lab_base.proofs.Tests.{never_both}
 use Rattle.tcl_words.specs.declared.flaw.Flaw.{Flaw}
-use Rattle.tcl_words.specs.declared.frame.Place.TheVariants.{Start}
+use Rattle.tcl_words.specs.declared.frame.BracketState.TheVariants.{Start}
 use Rattle.tcl_words.specs.declared.frame.Frame.TheVariants as frames
 use Rattle.tcl_words.specs.declared.tokens.Token.{Token}
 use Rattle.tcl_words.specs.declared.tokens.Token.TheVariants as tokens

@@ -4,15 +4,15 @@ use Rattle.std.specs.Prelude.{slice_index}
 use Rattle.std.proofs.lemmas.List.{drop_all}
 use Rattle.lab_base.specs.declared.fault.Kind.TheVariants as kinds
 use Rattle.tcl_words.specs.declared.flaw.Flaw.{Flaw}
-use Rattle.tcl_words.specs.declared.frame.Place.{Place}
-use Rattle.tcl_words.specs.declared.frame.Place.TheVariants.{Start, Between, Inside, AfterQuote, AfterBrace}
+use Rattle.tcl_words.specs.declared.frame.BracketState.{BracketState}
+use Rattle.tcl_words.specs.declared.frame.BracketState.TheVariants.{Start, Between, Inside, AfterQuote, AfterBrace}
 use Rattle.tcl_words.specs.declared.frame.Frame.{Frame}
 use Rattle.tcl_words.specs.declared.frame.Frame.TheVariants.{Bracket, Quote, Index}
 use Rattle.tcl_words.specs.declared.tokens.Token.{Token}
 use Rattle.tcl_words.specs.declared.tokens.Token.TheVariants as tokens
 use Rattle.tcl_words.specs.Tokens.{token_of, token_size, blank_of, is_command_end, comment_from, braces_from}
 use Rattle.tcl_words.specs.Passes as rules
-use Rattle.tcl_words.specs.Passes.{flaw, flaw_of, behind_blank, InBracket, GoesOn, IsPlain, Passes}
+use Rattle.tcl_words.specs.Passes.{flaw, flaw_of, after_blank, InBracket, GoesOn, IsPlain, Passes}
 use Rattle.tcl_words.proofs.Plans.{Plan, Ends, Asks, Follows, ends, asks, knows, follows_once, chosen, test_same, test_some, test_most, what_is}
 
 -- no blank ends a command
@@ -52,7 +52,7 @@ module _ (t : List ℕ) where
       test_same (slice_index t i) 34 (Asks (Quote i, i + 1) (after_inner (Bracket p AfterQuote)))
       (test_same (slice_index t i) 123 (what_is (braces_from false 1 (drop (i + 1) t)) (braces_plan p i)) (on_plan (Bracket p Inside) i))
 
-  abbrev place_plan : ℕ → Place → ℕ → Plan (Frame × ℕ) (Result ℕ Flaw)
+  abbrev place_plan : ℕ → BracketState → ℕ → Plan (Frame × ℕ) (Result ℕ Flaw)
   place_plan p Start i = test_same (slice_index t i) 35 (Asks (Bracket p Start, i + comment_from false (drop i t)) Ends) (word_plan p i)
   place_plan p Between i = word_plan p i
   place_plan p Inside i = on_plan (Bracket p Inside) i
@@ -62,39 +62,39 @@ module _ (t : List ℕ) where
   abbrev frame_plan : Frame → ℕ → Plan (Frame × ℕ) (Result ℕ Flaw)
   frame_plan (Quote p) i = test_same (slice_index t i) 34 (Ends (Ok (i + 1))) (on_plan (Quote p) i)
   frame_plan (Index p) i = test_same (slice_index t i) 41 (Ends (Ok (i + 1))) (on_plan (Index p) i)
-  frame_plan (Bracket p place) i =
-      test_some (blank_of (drop i t)) (Asks (Bracket p (behind_blank place), i + blank_of (drop i t)) Ends)
-      (what_is (is_command_end (drop i t)) (chosen (Asks (Bracket p Start, i + 1) Ends) (test_same (slice_index t i) 93 (Ends (Ok (i + 1))) (place_plan p place i))))
+  frame_plan (Bracket p bracket_state) i =
+      test_some (blank_of (drop i t)) (Asks (Bracket p (after_blank bracket_state), i + blank_of (drop i t)) Ends)
+      (what_is (is_command_end (drop i t)) (chosen (Asks (Bracket p Start, i + 1) Ends) (test_same (slice_index t i) 93 (Ends (Ok (i + 1))) (place_plan p bracket_state i))))
 
   -- what comes next in a frame at a place
   abbrev pub passing : Frame × ℕ → Plan (Frame × ℕ) (Result ℕ Flaw)
   passing x = test_most (length t) x.1 (Ends (Err (flaw_of x.0))) (frame_plan x.0 x.1)
 
-  in_bracket : (p : ℕ) (place : Place) (i : ℕ) (o : Result ℕ Flaw) → InBracket t i → Follows passing (place_plan p place i) o → Follows passing (passing (Bracket p place, i)) o
-  in_bracket p place i o h on = knows false h.here (knows false h.no_blank (knows false h.no_end (knows false h.no_close on)))
+  in_bracket : (p : ℕ) (bracket_state : BracketState) (i : ℕ) (o : Result ℕ Flaw) → InBracket t i → Follows passing (place_plan p bracket_state i) o → Follows passing (passing (Bracket p bracket_state, i)) o
+  in_bracket p bracket_state i o h on = knows false h.here (knows false h.no_blank (knows false h.no_end (knows false h.no_close on)))
 
   at_other : (i b : ℕ) → i < length t → slice_index t i ≡ b → blank_of (b ∷ drop (suc i) t) ≡ 0 → is_command_end (b ∷ drop (suc i) t) ≡ false → b ≢ 93 → InBracket t i
   at_other i b less is blank end close =
       let front : drop i t ≡ b ∷ drop (suc i) t = at_byte i b less is in
       record { here = less; no_blank = ap blank_of front ∙ blank; no_end = ap is_command_end front ∙ end; no_close = λ e. close (sym is ∙ e) }
 
-  at_word : (p : ℕ) (place : Place) (i : ℕ) (o : Result ℕ Flaw) → rules.IsBefore place → slice_index t i ≢ 35 → Follows passing (word_plan p i) o → Follows passing (place_plan p place i) o
+  at_word : (p : ℕ) (bracket_state : BracketState) (i : ℕ) (o : Result ℕ Flaw) → rules.IsBefore bracket_state → slice_index t i ≢ 35 → Follows passing (word_plan p i) o → Follows passing (place_plan p bracket_state i) o
   at_word p Start i o before other on = knows false other on
   at_word p Between i o before other on = on
   at_word p Inside i o before other on = absurd before
   at_word p AfterQuote i o before other on = absurd before
   at_word p AfterBrace i o before other on = absurd before
 
-  at_quote : (p : ℕ) (place : Place) (i : ℕ) (o : Result ℕ Flaw) → i < length t → rules.IsBefore place → slice_index t i ≡ 34
-      → Follows passing (Asks (Quote i, i + 1) (after_inner (Bracket p AfterQuote))) o → Follows passing (passing (Bracket p place, i)) o
-  at_quote p place i o less before is on =
-      in_bracket p place i o (at_other i 34 less is refl refl (λ e. absurd (omega (arith, e)))) (at_word p place i o before (λ e. absurd (omega (arith, e, is))) (knows true is on))
+  at_quote : (p : ℕ) (bracket_state : BracketState) (i : ℕ) (o : Result ℕ Flaw) → i < length t → rules.IsBefore bracket_state → slice_index t i ≡ 34
+      → Follows passing (Asks (Quote i, i + 1) (after_inner (Bracket p AfterQuote))) o → Follows passing (passing (Bracket p bracket_state, i)) o
+  at_quote p bracket_state i o less before is on =
+      in_bracket p bracket_state i o (at_other i 34 less is refl refl (λ e. absurd (omega (arith, e)))) (at_word p bracket_state i o before (λ e. absurd (omega (arith, e, is))) (knows true is on))
 
-  at_brace : (p : ℕ) (place : Place) (i : ℕ) (o : Result ℕ Flaw) → i < length t → rules.IsBefore place → slice_index t i ≡ 123
-      → Follows passing (what_is (braces_from false 1 (drop (i + 1) t)) (braces_plan p i)) o → Follows passing (passing (Bracket p place, i)) o
-  at_brace p place i o less before is on =
-      in_bracket p place i o (at_other i 123 less is refl refl (λ e. absurd (omega (arith, e))))
-      (at_word p place i o before (λ e. absurd (omega (arith, e, is))) (knows false (λ e. absurd (omega (arith, e, is))) (knows true is on)))
+  at_brace : (p : ℕ) (bracket_state : BracketState) (i : ℕ) (o : Result ℕ Flaw) → i < length t → rules.IsBefore bracket_state → slice_index t i ≡ 123
+      → Follows passing (what_is (braces_from false 1 (drop (i + 1) t)) (braces_plan p i)) o → Follows passing (passing (Bracket p bracket_state, i)) o
+  at_brace p bracket_state i o less before is on =
+      in_bracket p bracket_state i o (at_other i 123 less is refl refl (λ e. absurd (omega (arith, e))))
+      (at_word p bracket_state i o before (λ e. absurd (omega (arith, e, is))) (knows false (λ e. absurd (omega (arith, e, is))) (knows true is on)))
 
   plain_on : (g : Frame) (i : ℕ) (o : Result ℕ Flaw) (k : Token) → IsPlain k → Follows passing (passing (g, i + token_size k)) o → Follows passing (token_plan g i k) o
   plain_on g i o tokens.Byte is on = asks on ends
@@ -119,17 +119,17 @@ module _ (t : List ℕ) where
   passes_by (rules.unclosed f i past) = knows true past ends
   passes_by (rules.quote_ends p i less is) = knows false less (knows true is ends)
   passes_by (rules.index_ends p i less is) = knows false less (knows true is ends)
-  passes_by (rules.bracket_ends p place i less is) =
+  passes_by (rules.bracket_ends p bracket_state i less is) =
       knows false less (knows false (ap blank_of (at_byte i 93 less is)) (knows false (ap is_command_end (at_byte i 93 less is)) (knows true is ends)))
-  passes_by (rules.blank p place i o some on) = knows false (blank_here i some) (knows true some (asks (passes_by on) ends))
-  passes_by (rules.ends p place i o less is on) =
+  passes_by (rules.blank p bracket_state i o some on) = knows false (blank_here i some) (knows true some (asks (passes_by on) ends))
+  passes_by (rules.ends p bracket_state i o less is on) =
       knows false less (knows false (ap blank_of (drop-cons t i 0 less) ∙ end_no_blank (slice_index t i) (drop (suc i) t) (sym (ap is_command_end (drop-cons t i 0 less)) ∙ is))
       (knows true is (asks (passes_by on) ends)))
   passes_by (rules.comment p i o less is on) = in_bracket p Start i o (at_other i 35 less is refl refl (λ e. absurd (omega (arith, e)))) (knows true is (asks (passes_by on) ends))
-  passes_by (rules.quoted p place i j o less before is inner on) = at_quote p place i o less before is (asks (passes_by inner) (asks (passes_by on) ends))
-  passes_by (rules.quoted_fails p place i e less before is inner) = at_quote p place i (Err e) less before is (asks (passes_by inner) ends)
-  passes_by (rules.braced p place i n o less before is some on) = at_brace p place i o less before is (knows (Some n) some (asks (passes_by on) ends))
-  passes_by (rules.braced_fails p place i less before is none) = at_brace p place i (Err (flaw kinds.Brace i)) less before is (knows None none ends)
+  passes_by (rules.quoted p bracket_state i j o less before is inner on) = at_quote p bracket_state i o less before is (asks (passes_by inner) (asks (passes_by on) ends))
+  passes_by (rules.quoted_fails p bracket_state i e less before is inner) = at_quote p bracket_state i (Err e) less before is (asks (passes_by inner) ends)
+  passes_by (rules.braced p bracket_state i n o less before is some on) = at_brace p bracket_state i o less before is (knows (Some n) some (asks (passes_by on) ends))
+  passes_by (rules.braced_fails p bracket_state i less before is none) = at_brace p bracket_state i (Err (flaw kinds.Brace i)) less before is (knows None none ends)
   passes_by (rules.after_quote p i h) = in_bracket p AfterQuote i (Err (flaw kinds.AfterQuote i)) h ends
   passes_by (rules.after_brace p i h) = in_bracket p AfterBrace i (Err (flaw kinds.AfterBrace i)) h ends
   passes_by (rules.plain f g i o on is rest) = goes_on f g i o on (knows (token_of (drop i t)) refl (plain_on g i o (token_of (drop i t)) is (passes_by rest)))

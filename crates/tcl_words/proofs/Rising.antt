@@ -1,4 +1,4 @@
--- Spans rise: what is read lies behind what was read before it.
+-- Spans rise: what is read lies after what was read before it.
 use Rattle.std.specs.List.{prefix_len}
 use Rattle.std.specs.Char.{is_ascii_alphanumeric}
 use Rattle.std.proofs.Common.{arith, ◌≡◌, ℕ, ◌+◌, ◌<◌, ◌≤◌, inl, inr, ◌||◌, ◌&&◌, ◌==◌, nat_lt, Bool, true, false, cond, List, [], ◌∷◌, ◌++◌, Result, Ok, Err, drop, refl, sym, ap, ◌∙◌, subst}
@@ -81,14 +81,14 @@ module _ (t : List ℕ) where
   passes_from (passing.unclosed f i past) = tt
   passes_from (passing.quote_ends p i here byte) = omega arith
   passes_from (passing.index_ends p i here byte) = omega arith
-  passes_from (passing.bracket_ends p place i here byte) = omega arith
-  passes_from (passing.blank p place i o some rest) = from_later i _ o (omega arith) (passes_from rest)
-  passes_from (passing.ends p place i o here is rest) = from_later i _ o (omega arith) (passes_from rest)
+  passes_from (passing.bracket_ends p bracket_state i here byte) = omega arith
+  passes_from (passing.blank p bracket_state i o some rest) = from_later i _ o (omega arith) (passes_from rest)
+  passes_from (passing.ends p bracket_state i o here is rest) = from_later i _ o (omega arith) (passes_from rest)
   passes_from (passing.comment p i o here byte rest) = from_later i _ o (omega arith) (passes_from rest)
-  passes_from (passing.quoted p place i j o here before byte inner rest) = from_later i j o (omega (arith, passes_from inner)) (passes_from rest)
-  passes_from (passing.quoted_fails p place i e here before byte inner) = tt
-  passes_from (passing.braced p place i n o here before byte is rest) = from_later i _ o (omega arith) (passes_from rest)
-  passes_from (passing.braced_fails p place i here before byte is) = tt
+  passes_from (passing.quoted p bracket_state i j o here before byte inner rest) = from_later i j o (omega (arith, passes_from inner)) (passes_from rest)
+  passes_from (passing.quoted_fails p bracket_state i e here before byte inner) = tt
+  passes_from (passing.braced p bracket_state i n o here before byte is rest) = from_later i _ o (omega arith) (passes_from rest)
+  passes_from (passing.braced_fails p bracket_state i here before byte is) = tt
   passes_from (passing.after_quote p i is) = tt
   passes_from (passing.after_brace p i is) = tt
   passes_from (passing.plain f g i o on is rest) = from_later i _ o (omega arith) (passes_from rest)

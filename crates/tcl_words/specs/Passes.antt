@@ -3,8 +3,8 @@ use Rattle.std.specs.Prelude.{◌≡◌, ◌≢◌, ℕ, ◌+◌, ◌-◌, ◌<�
 use Rattle.lab_base.specs.declared.fault.Kind.{Kind}
 use Rattle.lab_base.specs.declared.fault.Kind.TheVariants as kinds
 use Rattle.tcl_words.specs.declared.flaw.Flaw.{Flaw}
-use Rattle.tcl_words.specs.declared.frame.Place.{Place}
-use Rattle.tcl_words.specs.declared.frame.Place.TheVariants.{Start, Between, Inside, AfterQuote, AfterBrace}
+use Rattle.tcl_words.specs.declared.frame.BracketState.{BracketState}
+use Rattle.tcl_words.specs.declared.frame.BracketState.TheVariants.{Start, Between, Inside, AfterQuote, AfterBrace}
 use Rattle.tcl_words.specs.declared.frame.Frame.{Frame}
 use Rattle.tcl_words.specs.declared.frame.Frame.TheVariants.{Bracket, Quote, Index}
 use Rattle.tcl_words.specs.declared.frame.Step.{Step}
@@ -19,20 +19,20 @@ flaw kind at = record { kind = kind; at = at }
 
 -- the fault of what isn't closed, at the place where it was opened
 abbrev pub flaw_of : Frame → Flaw
-flaw_of (Bracket opened place) = flaw kinds.Bracket opened
+flaw_of (Bracket opened bracket_state) = flaw kinds.Bracket opened
 flaw_of (Quote opened) = flaw kinds.Quote opened
 flaw_of (Index opened) = flaw kinds.Bracket opened
 
--- where one is in a bracket behind a blank
-abbrev pub behind_blank : Place → Place
-behind_blank Start = Start
-behind_blank Between = Between
-behind_blank Inside = Between
-behind_blank AfterQuote = Between
-behind_blank AfterBrace = Between
+-- where one is in a bracket after a blank
+abbrev pub after_blank : BracketState → BracketState
+after_blank Start = Start
+after_blank Between = Between
+after_blank Inside = Between
+after_blank AfterQuote = Between
+after_blank AfterBrace = Between
 
 -- a word of a bracket can begin
-abbrev pub IsBefore : Place → Type 0
+abbrev pub IsBefore : BracketState → Type 0
 IsBefore Start = Unit {0}
 IsBefore Between = Unit {0}
 IsBefore Inside = ⊥
@@ -40,7 +40,7 @@ IsBefore AfterQuote = ⊥
 IsBefore AfterBrace = ⊥
 
 -- this byte begins or goes on with a bare word there
-abbrev pub IsBare : Place → ℕ → Type 0
+abbrev pub IsBare : BracketState → ℕ → Type 0
 IsBare Start b = (b ≢ 35) × (b ≢ 34) × (b ≢ 123)
 IsBare Between b = (b ≢ 34) × (b ≢ 123)
 IsBare Inside b = Unit {0}
@@ -54,9 +54,9 @@ pub record InBracket (t : List ℕ) (i : ℕ) : Type 0 where
   pub no_end : is_command_end (drop i t) ≡ false
   pub no_close : slice_index t i ≢ 93
 
--- at that place substitution is made, and behind it one is in this frame
+-- at that place substitution is made, and after it one is in this frame
 abbrev pub GoesOn : List ℕ → Frame → ℕ → Frame → Type 0
-GoesOn t (Bracket opened place) i g = InBracket t i × IsBare place (slice_index t i) × (g ≡ Bracket opened Inside)
+GoesOn t (Bracket opened bracket_state) i g = InBracket t i × IsBare bracket_state (slice_index t i) × (g ≡ Bracket opened Inside)
 GoesOn t (Quote opened) i g = (i < length t) × (slice_index t i ≢ 34) × (g ≡ Quote opened)
 GoesOn t (Index opened) i g = (i < length t) × (slice_index t i ≢ 41) × (g ≡ Index opened)
 
@@ -70,30 +70,30 @@ IsPlain (tokens.Braced size) = Unit {0}
 IsPlain (tokens.Indexed size) = ⊥
 IsPlain tokens.Bracket = ⊥
 
--- From a place inside this frame the text goes on to the place behind what closes it, or to a fault.
+-- From a place inside this frame the text goes on to the place after what closes it, or to a fault.
 pub data Passes (t : List ℕ) : Frame → ℕ → Result ℕ Flaw → Type 0 where
   -- the text ends, and it isn't closed
   unclosed : (f : Frame) (i : ℕ) → length t ≤ i → Passes t f i (Err (flaw_of f))
   -- it is closed
   quote_ends : (p i : ℕ) → i < length t → slice_index t i ≡ 34 → Passes t (Quote p) i (Ok (i + 1))
   index_ends : (p i : ℕ) → i < length t → slice_index t i ≡ 41 → Passes t (Index p) i (Ok (i + 1))
-  bracket_ends : (p : ℕ) (place : Place) (i : ℕ) → i < length t → slice_index t i ≡ 93 → Passes t (Bracket p place) i (Ok (i + 1))
+  bracket_ends : (p : ℕ) (bracket_state : BracketState) (i : ℕ) → i < length t → slice_index t i ≡ 93 → Passes t (Bracket p bracket_state) i (Ok (i + 1))
   -- between the words and commands of a bracket
-  blank : (p : ℕ) (place : Place) (i : ℕ) (o : Result ℕ Flaw) → 0 < blank_of (drop i t)
-      → Passes t (Bracket p (behind_blank place)) (i + blank_of (drop i t)) o → Passes t (Bracket p place) i o
-  ends : (p : ℕ) (place : Place) (i : ℕ) (o : Result ℕ Flaw) → i < length t → is_command_end (drop i t) ≡ true
-      → Passes t (Bracket p Start) (i + 1) o → Passes t (Bracket p place) i o
+  blank : (p : ℕ) (bracket_state : BracketState) (i : ℕ) (o : Result ℕ Flaw) → 0 < blank_of (drop i t)
+      → Passes t (Bracket p (after_blank bracket_state)) (i + blank_of (drop i t)) o → Passes t (Bracket p bracket_state) i o
+  ends : (p : ℕ) (bracket_state : BracketState) (i : ℕ) (o : Result ℕ Flaw) → i < length t → is_command_end (drop i t) ≡ true
+      → Passes t (Bracket p Start) (i + 1) o → Passes t (Bracket p bracket_state) i o
   comment : (p i : ℕ) (o : Result ℕ Flaw) → i < length t → slice_index t i ≡ 35
       → Passes t (Bracket p Start) (i + comment_from false (drop i t)) o → Passes t (Bracket p Start) i o
-  -- quoted and braced words of a bracket, and what stands behind them
-  quoted : (p : ℕ) (place : Place) (i j : ℕ) (o : Result ℕ Flaw) → i < length t → IsBefore place → slice_index t i ≡ 34
-      → Passes t (Quote i) (i + 1) (Ok j) → Passes t (Bracket p AfterQuote) j o → Passes t (Bracket p place) i o
-  quoted_fails : (p : ℕ) (place : Place) (i : ℕ) (e : Flaw) → i < length t → IsBefore place → slice_index t i ≡ 34
-      → Passes t (Quote i) (i + 1) (Err e) → Passes t (Bracket p place) i (Err e)
-  braced : (p : ℕ) (place : Place) (i n : ℕ) (o : Result ℕ Flaw) → i < length t → IsBefore place → slice_index t i ≡ 123
-      → braces_from false 1 (drop (i + 1) t) ≡ Some n → Passes t (Bracket p AfterBrace) (i + 1 + n) o → Passes t (Bracket p place) i o
-  braced_fails : (p : ℕ) (place : Place) (i : ℕ) → i < length t → IsBefore place → slice_index t i ≡ 123
-      → braces_from false 1 (drop (i + 1) t) ≡ None → Passes t (Bracket p place) i (Err (flaw kinds.Brace i))
+  -- quoted and braced words of a bracket, and what stands after them
+  quoted : (p : ℕ) (bracket_state : BracketState) (i j : ℕ) (o : Result ℕ Flaw) → i < length t → IsBefore bracket_state → slice_index t i ≡ 34
+      → Passes t (Quote i) (i + 1) (Ok j) → Passes t (Bracket p AfterQuote) j o → Passes t (Bracket p bracket_state) i o
+  quoted_fails : (p : ℕ) (bracket_state : BracketState) (i : ℕ) (e : Flaw) → i < length t → IsBefore bracket_state → slice_index t i ≡ 34
+      → Passes t (Quote i) (i + 1) (Err e) → Passes t (Bracket p bracket_state) i (Err e)
+  braced : (p : ℕ) (bracket_state : BracketState) (i n : ℕ) (o : Result ℕ Flaw) → i < length t → IsBefore bracket_state → slice_index t i ≡ 123
+      → braces_from false 1 (drop (i + 1) t) ≡ Some n → Passes t (Bracket p AfterBrace) (i + 1 + n) o → Passes t (Bracket p bracket_state) i o
+  braced_fails : (p : ℕ) (bracket_state : BracketState) (i : ℕ) → i < length t → IsBefore bracket_state → slice_index t i ≡ 123
+      → braces_from false 1 (drop (i + 1) t) ≡ None → Passes t (Bracket p bracket_state) i (Err (flaw kinds.Brace i))
   after_quote : (p i : ℕ) → InBracket t i → Passes t (Bracket p AfterQuote) i (Err (flaw kinds.AfterQuote i))
   after_brace : (p i : ℕ) → InBracket t i → Passes t (Bracket p AfterBrace) i (Err (flaw kinds.AfterBrace i))
   -- what stands where substitution is made

@@ -5,7 +5,7 @@ use Rattle.lab_base.specs.declared.fault.Kind.TheVariants as kinds
 use Rattle.lab_base.specs.declared.fault.TextRefused.{TextRefused}
 use Rattle.lab_base.specs.declared.fault.TextRefused.TheVariants as refused
 use Rattle.tcl_words.specs.declared.flaw.Flaw.{Flaw}
-use Rattle.tcl_words.specs.declared.frame.Place.TheVariants.{Start}
+use Rattle.tcl_words.specs.declared.frame.BracketState.TheVariants.{Start}
 use Rattle.tcl_words.specs.declared.frame.Frame.TheVariants as frames
 use Rattle.std.specs.Option.{ForSome}
 use Rattle.tcl_words.specs.declared.tokens.Token.{Token}
@@ -22,7 +22,7 @@ use Rattle.tcl_words.specs.declared.parts.Closing.TheVariants.{Blank, Quote, Ind
 use Rattle.tcl_words.specs.Tokens.{token_of, blank_of, joined_of, begins_with, is_command_end, is_word_end, comment_from, braces_from}
 use Rattle.tcl_words.specs.Passes.{flaw, Passes}
 
--- the parts are closed here, and that is the place behind what closes them
+-- the parts are closed here, and that is the place after what closes them
 abbrev pub ClosesAt : List ℕ → Closing → ℕ → ℕ → Type 0
 ClosesAt t Blank i j = (is_word_end (drop i t) ≡ true) × (j ≡ i)
 ClosesAt t (Quote opened) i j = (i < length t) × (slice_index t i ≡ 34) × (j ≡ i + 1)
@@ -49,7 +49,7 @@ abbrev pub after_parts : List Part → Result (List Part × ℕ) Flaw → Result
 after_parts ps (Ok x) = Ok (ps ++ x.0, x.1)
 after_parts ps (Err e) = Err e
 
--- The parts from the place i on, where the bytes from s to i stand for themselves: they, and the place behind what
+-- The parts from the place i on, where the bytes from s to i stand for themselves: they, and the place after what
 -- closes them, or a fault.
 pub data PartsOf (t : List ℕ) (c : Closing) : ℕ → ℕ → Result (List Part × ℕ) Flaw → Type 0 where
   closed : (s i j : ℕ) → ClosesAt t c i j → PartsOf t c s i (Ok (bytes_from s i, j))
@@ -154,7 +154,7 @@ abbrev pub IsRefused : List ℕ → TextRefused → Type 0
 IsRefused t (refused.Text fault) = (e : Flaw) × CommandsOf t 0 (Err e) × (fault.kind ≡ e.kind) × (fault.line ≡ line_at t e.at)
 IsRefused t refused.Memory = Unit {0}
 
--- a variable where it stands: the places of its name, its index if it has one, and the place behind it
+-- a variable where it stands: the places of its name, its index if it has one, and the place after it
 abbrev pub reference : ℕ → ℕ → Option (List Part) → ℕ → Reference
 reference from to index end = record { name_start = from; name_end = to; index = index; end = end }
 
@@ -186,7 +186,7 @@ LiesIn n (Escape byte) = Unit {0}
 LiesIn n (Variable start end) = (start < end) × (end ≤ n)
 LiesIn n (Script start end) = (start ≤ end) × (end < n)
 
--- a variable's name and index lie in the text behind its place
+-- a variable's name and index lie in the text after its place
 abbrev pub ReferenceLies : ℕ → ℕ → Reference → Type 0
 ReferenceLies n i r = (r.name_start ≤ r.name_end) × (r.name_end ≤ n) × (i < r.end) × (r.end ≤ n) × ForSome r.index (All (LiesIn n))
 

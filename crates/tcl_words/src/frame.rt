@@ -6,32 +6,32 @@ ghost use Rattle.tcl_words.specs.Passes.{flaw_of};
 use crate::flaw::Flaw;
 use lab_base::Kind;
 
-/// A place inside a bracket.
+/// The state of a reading inside a bracket: where a next byte would stand.
 #[derive(Clone, Copy, Drop)]
-pub enum Place {
-    /// The place where a command would begin.
+pub enum BracketState {
+    /// A command would begin here.
     Start,
-    /// The place where a word of a command would begin.
+    /// A word of a command would begin here.
     Between,
     /// The inside of a bare word.
     Inside,
-    /// The place behind the closing quote of a word.
+    /// The closing quote of a word stands just before.
     AfterQuote,
-    /// The place behind the closing brace of a word.
+    /// The closing brace of a word stands just before.
     AfterBrace,
 }
 
-impl Place {
+impl BracketState {
     ghost use Rattle.std.specs.Prelude.{◌≡◌};
-    ghost use Rattle.tcl_words.specs.Passes.{behind_blank};
+    ghost use Rattle.tcl_words.specs.Passes.{after_blank};
 
-    /// The place behind a blank.
-    pub fn behind_blank(self) -> Place
-        ensures { result ≡ behind_blank self }
+    /// The state after a blank.
+    pub fn after_blank(self) -> BracketState
+        ensures { result ≡ after_blank self }
     {
         match self {
-            Place::Start => Place::Start,
-            _ => Place::Between,
+            BracketState::Start => BracketState::Start,
+            _ => BracketState::Between,
         }
     }
 }
@@ -39,9 +39,16 @@ impl Place {
 /// An open construct, with the place of its first byte.
 #[derive(Clone, Copy, Drop)]
 pub enum Frame {
-    Bracket { opened: usize, place: Place },
-    Quote { opened: usize },
-    Index { opened: usize },
+    Bracket {
+        opened: usize,
+        bracket_state: BracketState,
+    },
+    Quote {
+        opened: usize,
+    },
+    Index {
+        opened: usize,
+    },
 }
 
 /// The next step in an open construct.

@@ -4,10 +4,10 @@ ghost use Rattle.std.specs.Prelude.{◌≡◌, ◌≢◌, ◌+◌, ◌<◌, ◌�
 ghost use Rattle.tcl_words.specs.Passes.{InBracket, GoesOn, Passes, Leads, IsForward};
 ghost use Rattle.tcl_words.specs.Gives.{Finds};
 ghost use Rattle.tcl_words.specs.declared.frame.Frame.TheVariants as frames;
-ghost use Rattle.tcl_words.specs.declared.frame.Place.TheVariants as places;
+ghost use Rattle.tcl_words.specs.declared.frame.BracketState.TheVariants as places;
 
 use crate::flaw::{Broken, Flaw};
-use crate::frame::{Frame, Place, Step, unclosed};
+use crate::frame::{BracketState, Frame, Step, unclosed};
 use crate::tokens::{Token, blank_at, braces_at, comment_at, ends_command_at, token_at};
 use lab_base::Kind;
 use std::alloc::Global;
@@ -47,7 +47,7 @@ fn inner_step(text: &[u8], from: Frame, frame: Frame, at: usize) -> Step
         Token::Bracket => Step::Opens {
             inner: Frame::Bracket {
                 opened: at,
-                place: Place::Start,
+                bracket_state: BracketState::Start,
             },
             at: at + 1,
             frame,
@@ -56,41 +56,44 @@ fn inner_step(text: &[u8], from: Frame, frame: Frame, at: usize) -> Step
 }
 
 /// The step where a word of a bracket begins or goes on.
-fn word_step(text: &[u8], opened: usize, place: Place, at: usize) -> Step
+fn word_step(text: &[u8], opened: usize, bracket_state: BracketState, at: usize) -> Step
     requires inside { InBracket text.now at }
-    requires no_comment { place ≡ places.Start → slice_index text.now at ≢ 35 }
-    ensures leads { Leads text.now (frames.Bracket opened place) at result }
+    requires no_comment { bracket_state ≡ places.Start → slice_index text.now at ≢ 35 }
+    ensures leads { Leads text.now (frames.Bracket opened bracket_state) at result }
     ensures forward { IsForward text.now at result }
 {
-    let here = Frame::Bracket { opened, place };
+    let here = Frame::Bracket {
+        opened,
+        bracket_state,
+    };
     let inside = Frame::Bracket {
         opened,
-        place: Place::Inside,
+        bracket_state: BracketState::Inside,
     };
-    match place {
-        Place::AfterQuote => Step::Fails(Flaw {
+    match bracket_state {
+        BracketState::AfterQuote => Step::Fails(Flaw {
             kind: Kind::AfterQuote,
             at,
         }),
-        Place::AfterBrace => Step::Fails(Flaw {
+        BracketState::AfterBrace => Step::Fails(Flaw {
             kind: Kind::AfterBrace,
             at,
         }),
-        Place::Inside => inner_step(text, here, inside, at),
+        BracketState::Inside => inner_step(text, here, inside, at),
         _ => match text[at] {
             b'"' => Step::Opens {
                 inner: Frame::Quote { opened: at },
                 at: at + 1,
                 frame: Frame::Bracket {
                     opened,
-                    place: Place::AfterQuote,
+                    bracket_state: BracketState::AfterQuote,
                 },
             },
             b'{' => match braces_at(text, at + 1) {
                 Some(size) => Step::Goes {
                     frame: Frame::Bracket {
                         opened,
-                        place: Place::AfterBrace,
+                        bracket_state: BracketState::AfterBrace,
                     },
                     at: at + 1 + size,
                 },
@@ -105,21 +108,21 @@ fn word_step(text: &[u8], opened: usize, place: Place, at: usize) -> Step
 }
 
 /// The step in a bracket.
-fn bracket_step(text: &[u8], opened: usize, place: Place, at: usize) -> Step
+fn bracket_step(text: &[u8], opened: usize, bracket_state: BracketState, at: usize) -> Step
     requires { at < length text.now }
-    ensures leads { Leads text.now (frames.Bracket opened place) at result }
+    ensures leads { Leads text.now (frames.Bracket opened bracket_state) at result }
     ensures forward { IsForward text.now at result }
 {
     let start = Frame::Bracket {
         opened,
-        place: Place::Start,
+        bracket_state: BracketState::Start,
     };
     let blank = blank_at(text, at);
     if blank > 0 {
         return Step::Goes {
             frame: Frame::Bracket {
                 opened,
-                place: place.behind_blank(),
+                bracket_state: bracket_state.after_blank(),
             },
             at: at + blank,
         };
@@ -132,11 +135,11 @@ fn bracket_step(text: &[u8], opened: usize, place: Place, at: usize) -> Step
     }
     match text[at] {
         b']' => Step::Closes { at: at + 1 },
-        b'#' if place == Place::Start => Step::Goes {
+        b'#' if bracket_state == BracketState::Start => Step::Goes {
             frame: start,
             at: at + comment_at(text, at),
         },
-        _ => word_step(text, opened, place, at),
+        _ => word_step(text, opened, bracket_state, at),
     }
 }
 
@@ -147,7 +150,10 @@ fn step_at(text: &[u8], frame: Frame, at: usize) -> Step
     ensures forward { IsForward text.now at result }
 {
     match frame {
-        Frame::Bracket { opened, place } => bracket_step(text, opened, place, at),
+        Frame::Bracket {
+            opened,
+            bracket_state,
+        } => bracket_step(text, opened, bracket_state, at),
         Frame::Quote { .. } => {
             if text[at] == b'"' {
                 Step::Closes { at: at + 1 }
@@ -165,7 +171,7 @@ fn step_at(text: &[u8], frame: Frame, at: usize) -> Step
     }
 }
 
-/// The place behind the end of an open construct, from a place inside it.
+/// The place beyond the end of an open construct, from a place inside it.
 pub fn pass(alloc: Global, text: &[u8], frame: Frame, at: usize) -> Result<usize, Broken>
     requires { at ≤ length text.now }
     ensures passes { Finds (λ o. Passes text.now frame at o) result }

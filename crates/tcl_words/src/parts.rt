@@ -8,12 +8,12 @@ ghost use Rattle.tcl_words.specs.Words.{bytes_from, PartsOf, InBraces, Reference
 ghost use Rattle.tcl_words.specs.Pieces.{PieceLeads, ComesNext};
 ghost use Rattle.tcl_words.specs.Tokens.{is_word_end};
 ghost use Rattle.tcl_words.specs.declared.frame.Frame.TheVariants as frames;
-ghost use Rattle.tcl_words.specs.declared.frame.Place.TheVariants as places;
+ghost use Rattle.tcl_words.specs.declared.frame.BracketState.TheVariants as places;
 ghost use Rattle.tcl_words.specs.declared.parts.Closing.TheVariants as closings;
 ghost use Rattle.tcl_words.specs.declared.word.Part.TheVariants as parts;
 
 use crate::flaw::{Broken, Flaw};
-use crate::frame::{Frame, Place};
+use crate::frame::{BracketState, Frame};
 use crate::nesting::pass;
 use crate::tokens::{Token, ends_word_at, joined_at, token_at};
 use crate::word::{Part, Reference};
@@ -49,7 +49,7 @@ pub enum Closing {
 /// The outcome at a place among parts.
 #[derive(Clone, Copy, Drop)]
 pub enum Next {
-    /// The parts end here, and `end` is the place behind their end.
+    /// The parts end here, and `end` is the place beyond their end.
     Closed { end: usize },
     /// The text ends before the parts do.
     Unclosed(Flaw),
@@ -97,7 +97,7 @@ fn next_at(text: &[u8], closing: Closing, at: usize) -> Next
     }
 }
 
-/// The place behind the script at a `[`, with its bracket.
+/// The place after the script at a `[`, with its bracket.
 pub fn script_end(alloc: Global, text: &[u8], at: usize) -> Result<usize, Broken>
     requires { at < length text.now }
     ensures passes { Finds (λ o. Passes text.now (frames.Bracket at places.Start) (at + 1) o) result }
@@ -105,12 +105,12 @@ pub fn script_end(alloc: Global, text: &[u8], at: usize) -> Result<usize, Broken
 {
     let frame = Frame::Bracket {
         opened: at,
-        place: Place::Start,
+        bracket_state: BracketState::Start,
     };
     pass(alloc, text, frame, at + 1)
 }
 
-/// The place behind an index, with its closing parenthesis.
+/// The place after an index, with its closing parenthesis.
 fn index_end(alloc: Global, text: &[u8], opened: usize) -> Result<usize, Broken>
     requires { opened < length text.now }
     ensures passes { Finds (λ o. Passes text.now (frames.Index opened) (opened + 1) o) result }
@@ -131,7 +131,7 @@ fn variable_part(start: usize, end: usize) -> Part
     }
 }
 
-/// The part at a place, and the place behind it. A byte that stands for itself is no part.
+/// The part at a place, and the place after it. A byte that stands for itself is no part.
 fn piece_at(alloc: Global, text: &[u8], at: usize) -> Result<(Option<Part>, usize), Broken>
     requires here { at < length text.now }
     requires short { length text.now < TEXT_LIMIT }
@@ -163,7 +163,7 @@ fn piece_at(alloc: Global, text: &[u8], at: usize) -> Result<(Option<Part>, usiz
     }
 }
 
-/// The parts from a place up to their end, and the place behind that.
+/// The parts from a place up to their end, and the place after that.
 pub(crate) fn parts_at(
     alloc: Global,
     text: &[u8],

@@ -17,7 +17,7 @@ pub enum Part {
     Plain { start: u32, end: u32 },
     /// A byte by its escape, or the blank of a joined line.
     Escape { byte: u8 },
-    /// A variable, from its `$` to behind its name, its `}` or its index.
+    /// A variable, from its `$` to after its name, its `}` or its index.
     Variable { start: u32, end: u32 },
     /// A script, without its brackets.
     Script { start: u32, end: u32 },
@@ -39,7 +39,7 @@ pub struct Command {
     pub line: u32,
 }
 
-/// A variable in a text: its name, its index if it has one, and the place behind it.
+/// A variable in a text: its name, its index if it has one, and the place after it.
 #[derive(Drop)]
 pub struct Reference {
     pub name_start: usize,

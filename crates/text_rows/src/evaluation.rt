@@ -79,7 +79,7 @@ fn push_ran(out: &mut Text, ran: Result<Ran, TextRefused>) -> Result<(), Memory>
     }
 }
 
-/// The value that `r` has behind a text that an interpreter runs, or `!`.
+/// The value that `r` has after a text that an interpreter runs, or `!`.
 fn value_by(alloc: Global, interp: &mut Interp<Nobody>, text: &[u8]) -> Result<Text, Memory> {
     let name = Text::from_slice(alloc, b"r")?;
     if ran(interp, text).is_err() {
@@ -91,7 +91,7 @@ fn value_by(alloc: Global, interp: &mut Interp<Nobody>, text: &[u8]) -> Result<T
     }
 }
 
-/// The value that `r` has behind a text, or `!` where there is none or the text is refused.
+/// The value that `r` has after a text, or `!` where there is none or the text is refused.
 pub fn value(alloc: Global, text: &[u8]) -> Result<Text, Memory> {
     let mut interp = Interp::new(alloc, Nobody)?;
     let value = value_by(alloc, &mut interp, text);

@@ -2,7 +2,7 @@
 use lab_base::{Memory, Text, TextRefused};
 use ns_build::{Asked, read_ns};
 use ns_events::{Event, What};
-use row_words::{Untold, push_numbers};
+use row_words::{RowFault, push_numbers};
 use std::alloc::Global;
 
 /// A link `l`, a LAN `m` and a link without a variable, in lines 4, 5 and 6.
@@ -32,7 +32,7 @@ fn push_event(out: &mut Text, event: &Event) -> Result<(), Memory> {
     }
 }
 
-/// The reading of a text behind the head.
+/// The reading of a text after the head.
 fn read(alloc: Global, lines: &[u8]) -> Result<Asked, TextRefused> {
     let mut text = Text::from_slice(alloc, HEAD)?;
     text.push_bytes(lines)?;
@@ -51,8 +51,8 @@ fn push_events(out: &mut Text, events: &[Event], line: u32) -> Result<(), Memory
     push_numbers(out, &[u64::from(line)])
 }
 
-/// The events of a text behind the head, and the line of its run.
-pub fn told(alloc: Global, lines: &[u8]) -> Result<Text, Untold> {
+/// The events of a text after the head, and the line of its run.
+pub fn told(alloc: Global, lines: &[u8]) -> Result<Text, RowFault> {
     let mut out = Text::new(alloc);
     match read(alloc, lines) {
         Ok(asked) => {
@@ -61,7 +61,7 @@ pub fn told(alloc: Global, lines: &[u8]) -> Result<Text, Untold> {
             pushed?;
             Ok(out)
         }
-        Err(refused) => Err(Untold::from(refused)),
+        Err(refused) => Err(RowFault::from(refused)),
     }
 }
 
@@ -73,7 +73,7 @@ fn push_last(out: &mut Text, events: &[Event], line: u32) -> Result<(), Memory> 
 }
 
 /// How many events there are, and the last one, with the line of the run.
-pub fn told_last(alloc: Global, lines: &[u8]) -> Result<Text, Untold> {
+pub fn told_last(alloc: Global, lines: &[u8]) -> Result<Text, RowFault> {
     let mut out = Text::new(alloc);
     match read(alloc, lines) {
         Ok(asked) => {
@@ -82,6 +82,6 @@ pub fn told_last(alloc: Global, lines: &[u8]) -> Result<Text, Untold> {
             pushed?;
             Ok(out)
         }
-        Err(refused) => Err(Untold::from(refused)),
+        Err(refused) => Err(RowFault::from(refused)),
     }
 }

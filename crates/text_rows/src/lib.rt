@@ -8,7 +8,7 @@
 //! top       the text of a wiring
 //! solution  the text of a mapping of the pair; `ends`: the names of ends
 //! words     the commands and words of a Tcl text
-//! value     what the variable `r` is behind a Tcl text, or `!` where there is none or the text is refused
+//! value     what the variable `r` is after a Tcl text, or `!` where there is none or the text is refused
 //! tcl       how a Tcl text ends; `again`: where one was refused before; `stops`: where a command of the host stops it
 //! ns        the network of an NS text; `nodes`: of lines over two nodes; `long`: of a long text, with so many line ends
 //! events    the events of lines over two nodes, a link and a LAN; `many`: their number and the last one
@@ -34,11 +34,11 @@ mod values;
 mod wirings;
 
 use lab_base::{Kind, Text};
-use row_words::{Untold, text_of};
+use row_words::{RowFault, text_of};
 use std::alloc::Global;
 
 /// The output of a row about scripts, labs, wirings or mappings.
-fn told_of_lab(alloc: Global, kind: &str, text: &[u8]) -> Result<Option<Text>, Untold> {
+fn told_of_lab(alloc: Global, kind: &str, text: &[u8]) -> Result<Option<Text>, RowFault> {
     Ok(Some(match kind {
         "script" => scripts::told(alloc, text)?,
         "reply" => replies::told(alloc)?,
@@ -53,7 +53,7 @@ fn told_of_lab(alloc: Global, kind: &str, text: &[u8]) -> Result<Option<Text>, U
 }
 
 /// The output of a row about Tcl.
-fn told_of_tcl(alloc: Global, kind: &str, text: &[u8]) -> Result<Option<Text>, Untold> {
+fn told_of_tcl(alloc: Global, kind: &str, text: &[u8]) -> Result<Option<Text>, RowFault> {
     Ok(Some(match kind {
         "words" => splitting::told(alloc, text)?,
         "value" => evaluation::value(alloc, text)?,
@@ -65,7 +65,7 @@ fn told_of_tcl(alloc: Global, kind: &str, text: &[u8]) -> Result<Option<Text>, U
 }
 
 /// The output of a row about NS texts and their events.
-fn told_of_ns(alloc: Global, kind: &str, text: &[u8]) -> Result<Option<Text>, Untold> {
+fn told_of_ns(alloc: Global, kind: &str, text: &[u8]) -> Result<Option<Text>, RowFault> {
     Ok(Some(match kind {
         "ns" => networks::told(alloc, text)?,
         "nodes" => networks::told_over_two(alloc, text)?,
@@ -79,7 +79,7 @@ fn told_of_ns(alloc: Global, kind: &str, text: &[u8]) -> Result<Option<Text>, Un
 }
 
 /// The output of a row by its kind, if it is one.
-fn told_by_kind(alloc: Global, kind: &str, text: &[u8]) -> Result<Option<Text>, Untold> {
+fn told_by_kind(alloc: Global, kind: &str, text: &[u8]) -> Result<Option<Text>, RowFault> {
     if let Some(told) = told_of_lab(alloc, kind, text)? {
         return Ok(Some(told));
     }
@@ -96,11 +96,11 @@ fn told_by_kind(alloc: Global, kind: &str, text: &[u8]) -> Result<Option<Text>, 
 }
 
 /// The output of a row.
-pub fn told(alloc: Global, line: &str) -> Result<Text, Untold> {
+pub fn told(alloc: Global, line: &str) -> Result<Text, RowFault> {
     let (kind, letters) = line.split_once(' ').unwrap_or((line, ""));
     let text = text_of(alloc, letters.as_bytes())?;
     match told_by_kind(alloc, kind, text.bytes())? {
         Some(told) => Ok(told),
-        None => Err(Untold::Word(Kind::Unknown)),
+        None => Err(RowFault::Word(Kind::Unknown)),
     }
 }

@@ -1,7 +1,7 @@
 //! Networks of NS texts.
 use lab_base::{Memory, Name, Text};
 use ns_build::{Asked, read_ns};
-use row_words::{Untold, push_number};
+use row_words::{RowFault, push_number};
 use std::alloc::Global;
 use virt_topo::{AskedLink, AskedNode, Asks, Class, Topo, VirtEnd};
 
@@ -107,7 +107,7 @@ fn push_asked(out: &mut Text, asked: &Asked) -> Result<(), Memory> {
 }
 
 /// The line of `$ns run` and the network.
-pub fn told(alloc: Global, text: &[u8]) -> Result<Text, Untold> {
+pub fn told(alloc: Global, text: &[u8]) -> Result<Text, RowFault> {
     let mut out = Text::new(alloc);
     if text.len() > 100_000 {
         return Ok(out);
@@ -119,12 +119,12 @@ pub fn told(alloc: Global, text: &[u8]) -> Result<Text, Untold> {
             pushed?;
             Ok(out)
         }
-        Err(refused) => Err(Untold::from(refused)),
+        Err(refused) => Err(RowFault::from(refused)),
     }
 }
 
-/// The network of a text of two nodes, with lines behind them, and the run.
-pub fn told_over_two(alloc: Global, lines: &[u8]) -> Result<Text, Untold> {
+/// The network of a text of two nodes, with lines after them, and the run.
+pub fn told_over_two(alloc: Global, lines: &[u8]) -> Result<Text, RowFault> {
     let mut text = Text::from_slice(alloc, HEAD)?;
     text.push_bytes(lines)?;
     text.push_bytes(b"\n$ns run\n")?;
@@ -132,7 +132,7 @@ pub fn told_over_two(alloc: Global, lines: &[u8]) -> Result<Text, Untold> {
 }
 
 /// The fault of a text with an open quote on line 3, of 65,536 bytes and further ones.
-pub fn told_long(alloc: Global, further: &[u8]) -> Result<Text, Untold> {
+pub fn told_long(alloc: Global, further: &[u8]) -> Result<Text, RowFault> {
     let mut text = Text::from_slice(alloc, b"\n\n\"")?;
     for _ in 0..65_533 {
         text.push(b'x')?;

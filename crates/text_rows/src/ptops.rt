@@ -4,7 +4,7 @@ ghost use Rattle.std.specs.Prelude.{◌<◌};
 use lab_base::{Memory, SwitchId, Text, TextRefused, TrunkId};
 use phys_lab::Lab;
 use ptop_text::{print_ptop, read_ptop};
-use row_words::Untold;
+use row_words::RowFault;
 use std::alloc::Global;
 
 /// The lab of a text.
@@ -26,7 +26,7 @@ fn push_lab(out: &mut Text, alloc: Global, lab: &Lab) -> Result<(), Memory> {
 }
 
 /// How many switches, nodes and trunks the lab of a text has, and its canonical text.
-pub fn told(alloc: Global, text: &[u8]) -> Result<Text, Untold> {
+pub fn told(alloc: Global, text: &[u8]) -> Result<Text, RowFault> {
     let mut out = Text::new(alloc);
     match read(alloc, text) {
         Ok(lab) => {
@@ -35,7 +35,7 @@ pub fn told(alloc: Global, text: &[u8]) -> Result<Text, Untold> {
             pushed?;
             Ok(out)
         }
-        Err(refused) => Err(Untold::from(refused)),
+        Err(refused) => Err(RowFault::from(refused)),
     }
 }
 
@@ -61,7 +61,7 @@ fn push_sides(out: &mut Text, lab: &Lab) -> Result<(), Memory> {
 }
 
 /// The sides of the first trunk of a lab.
-pub fn sides(alloc: Global, text: &[u8]) -> Result<Text, Untold> {
+pub fn sides(alloc: Global, text: &[u8]) -> Result<Text, RowFault> {
     let mut out = Text::new(alloc);
     match read(alloc, text) {
         Ok(lab) => {
@@ -70,7 +70,7 @@ pub fn sides(alloc: Global, text: &[u8]) -> Result<Text, Untold> {
             pushed?;
             Ok(out)
         }
-        Err(refused) => Err(Untold::from(refused)),
+        Err(refused) => Err(RowFault::from(refused)),
     }
 }
 

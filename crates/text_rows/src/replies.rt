@@ -4,7 +4,7 @@ use script_text::*;
 use std::alloc::Global;
 use virt_topo::Broken;
 
-/// Adds the text of a reply, and behind one that closes the controller a line that says so.
+/// Adds the text of a reply, and after one that closes the controller a line that says so.
 fn push_text(out: &mut Text, alloc: Global, reply: &Reply) -> Result<(), Memory> {
     out.push_bytes(reply_text(alloc, reply)?.bytes())?;
     if reply.closes() {

@@ -5,7 +5,7 @@ ghost use Rattle.lab_model.specs.Shapes.{IsShaped};
 use crate::{ptops, tops};
 use lab_base::{Memory, Text, TextRefused};
 use phys_lab::Lab;
-use row_words::Untold;
+use row_words::RowFault;
 use solution_text::{print_end, print_solution, read_solution};
 use std::alloc::Global;
 use virt_topo::{Mapping, Wiring};
@@ -52,14 +52,14 @@ fn printed_in(alloc: Global, lab: &Lab, text: &[u8]) -> Result<Text, TextRefused
 }
 
 /// The canonical text of a mapping of the pair.
-pub fn told(alloc: Global, text: &[u8]) -> Result<Text, Untold> {
+pub fn told(alloc: Global, text: &[u8]) -> Result<Text, RowFault> {
     match ptops::read(alloc, LAB) {
         Ok(lab) => {
             let printed = printed_in(alloc, &lab, text);
             drop(lab);
             Ok(printed?)
         }
-        Err(refused) => Err(Untold::from(refused)),
+        Err(refused) => Err(RowFault::from(refused)),
     }
 }
 
@@ -74,13 +74,13 @@ fn names_of_ends(alloc: Global, wiring: &Wiring) -> Result<Text, Memory> {
 }
 
 /// The names of the first four ends of the wiring of a text.
-pub fn told_ends(alloc: Global, text: &[u8]) -> Result<Text, Untold> {
+pub fn told_ends(alloc: Global, text: &[u8]) -> Result<Text, RowFault> {
     match tops::read(alloc, text) {
         Ok(wiring) => {
             let names = names_of_ends(alloc, &wiring);
             drop(wiring);
             Ok(names?)
         }
-        Err(refused) => Err(Untold::from(refused)),
+        Err(refused) => Err(RowFault::from(refused)),
     }
 }

@@ -1,6 +1,6 @@
 //! The commands and words of Tcl texts.
 use lab_base::Text;
-use row_words::Untold;
+use row_words::RowFault;
 use std::alloc::{AllocError, Global};
 use std::fmt::Write;
 use tcl_words::{Command, Part, Word, WordKind, split};
@@ -44,7 +44,7 @@ fn show_commands(out: &mut String, commands: &[Command]) -> Result<(), AllocErro
 }
 
 /// The commands as `|LINE` and the words, each by the first letter of its kind, its span and its parts.
-pub fn told(alloc: Global, text: &[u8]) -> Result<Text, Untold> {
+pub fn told(alloc: Global, text: &[u8]) -> Result<Text, RowFault> {
     let mut out = String::new(alloc);
     if text.len() > 1000 {
         return Ok(Text::from_slice(alloc, b"long")?);
@@ -56,6 +56,6 @@ pub fn told(alloc: Global, text: &[u8]) -> Result<Text, Untold> {
             shown?;
             Ok(Text::from_slice(alloc, out.as_bytes())?)
         }
-        Err(refused) => Err(Untold::from(refused)),
+        Err(refused) => Err(RowFault::from(refused)),
     }
 }

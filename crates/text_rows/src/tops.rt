@@ -3,7 +3,7 @@ ghost use Rattle.std.specs.Prelude.{◌<◌, IfOk};
 ghost use Rattle.virt_topo.specs.Soundness.{IsSound};
 
 use lab_base::{Text, TextRefused};
-use row_words::Untold;
+use row_words::RowFault;
 use std::alloc::Global;
 use top_text::{print_top, read_top};
 use virt_topo::Wiring;
@@ -20,13 +20,13 @@ pub fn read(alloc: Global, text: &[u8]) -> Result<Wiring, TextRefused>
 }
 
 /// The canonical text of the wiring of a text.
-pub fn told(alloc: Global, text: &[u8]) -> Result<Text, Untold> {
+pub fn told(alloc: Global, text: &[u8]) -> Result<Text, RowFault> {
     match read(alloc, text) {
         Ok(wiring) => {
             let top = print_top(alloc, &wiring);
             drop(wiring);
             Ok(top?)
         }
-        Err(refused) => Err(Untold::from(refused)),
+        Err(refused) => Err(RowFault::from(refused)),
     }
 }

@@ -1,7 +1,7 @@
 //! Wirings of NS texts.
 use lab_base::{Text, TextRefused};
 use ns_text::read_and_print;
-use row_words::Untold;
+use row_words::RowFault;
 use std::alloc::Global;
 use top_text::{print_top, read_top};
 
@@ -39,7 +39,7 @@ fn again(alloc: Global, top: &[u8]) -> Result<Text, TextRefused> {
 }
 
 /// The canonical text of the wiring of a text, where it is that of the wiring that it is read back as.
-pub fn told(alloc: Global, text: &[u8]) -> Result<Text, Untold> {
+pub fn told(alloc: Global, text: &[u8]) -> Result<Text, RowFault> {
     let top = printed(alloc, text)?;
     let again = again(alloc, top.bytes())?;
     if again == top {
@@ -50,7 +50,7 @@ pub fn told(alloc: Global, text: &[u8]) -> Result<Text, Untold> {
 }
 
 /// The wiring of three nodes with links or LANs between them.
-pub fn told_over_three(alloc: Global, joins: &[u8]) -> Result<Text, Untold> {
+pub fn told_over_three(alloc: Global, joins: &[u8]) -> Result<Text, RowFault> {
     let mut text = Text::from_slice(alloc, HEAD)?;
     text.push_bytes(joins)?;
     text.push_bytes(b"\n$ns run\n")?;

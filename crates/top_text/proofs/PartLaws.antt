@@ -26,7 +26,7 @@ use Rattle.top_text.proofs.SoundTests.{sound_tests}
 abbrev pub unfixed : VirtNode → VirtNode
 unfixed v = record v { fixed = None }
 
--- some first classes, virtual nodes, segments and pipes of a wiring, each kind behind those that it names
+-- some first classes, virtual nodes, segments and pipes of a wiring, each kind after those that it names
 pub record IsPart (w p : Wiring) : Type 0 where
   pub more_classes : List Class
   pub classes : w.classes ≡ p.classes ++ more_classes

@@ -33,9 +33,9 @@ use Rattle.virt_topo.specs.Repeats.{stands_again}
 use Rattle.virt_topo.specs.Soundness.{is_speed, are_rates, limits_class, limits_node, knows_class, asks_class_name}
 use Rattle.virt_topo.specs.Soundness as soundness
 use Rattle.virt_topo.proofs.CableLaws.{SegmentLimits}
-use Rattle.top_text.specs.Lines.{End, bare, addressed, end_parts, end_of, weight_of, pipe_rates, as_class, class_line, node_line, fix_line, link_line, multiplex_line, pipe_line}
+use Rattle.top_text.specs.Lines.{End, bare, addressed, end_parts, end_in_field, weight_of, pipe_rates, as_class, class_line, node_line, fix_line, link_line, multiplex_line, pipe_line}
 use Rattle.top_text.specs.Adding.{asks_at}
-use Rattle.top_text.specs.Canonical.{virt_name, class_name, behind_name, address_text, end_field, asked_name}
+use Rattle.top_text.specs.Canonical.{virt_name, class_name, after_name, address_text, end_field, asked_name}
 use Rattle.top_text.specs.Printable.{named_class, named_asks, named_node, named_segment, is_address}
 use Rattle.top_text.proofs.AddressAgain.{address_again, no_equals}
 use Rattle.top_text.proofs.OwnPlaces.{own_place}
@@ -44,9 +44,9 @@ map_self : {X : Type 0} (xs : List X) → map (λ x. x) xs ≡ xs
 map_self [] = refl
 map_self {X} (x ∷ xs) = ap (λ (l : List X). x ∷ l) (map_self xs)
 
-behind_again : {X : Type 0} (n least most : ℕ) (read : List ℕ → Result X Kind) (fields rest : List (List ℕ)) (xs : List X) → n + least ≤ length fields → length fields ≤ n + most → all_of read (Ok []) rest ≡ Ok xs
+after_again : {X : Type 0} (n least most : ℕ) (read : List ℕ → Result X Kind) (fields rest : List (List ℕ)) (xs : List X) → n + least ≤ length fields → length fields ≤ n + most → all_of read (Ok []) rest ≡ Ok xs
     → cond (counts (n + least) (n + most) fields) (all_of read (Ok []) rest) (Err kinds.Fields) ≡ Ok xs
-behind_again {X} n least most read fields rest xs low high is =
+after_again {X} n least most read fields rest xs low high is =
     ap (λ (b : Bool). cond b (all_of read (Ok []) rest) (Err kinds.Fields)) (and_from _ _ (le-leb (n + least) (length fields) low) (le-leb (length fields) (n + most) high)) ∙ is
 
 names_again : (names : List (List ℕ)) → list_all is_name names ≡ true → all_of name_of (Ok []) names ≡ Ok names
@@ -64,7 +64,7 @@ class_again c named limits =
     let high = leb-true (length c.types) 8 count.1 in
     let weight = leb-true c.weight 1000000 l.0 in
     λ j. as_class (both_of (name_again c.name n.0 j) (both_of (number_back 0 1000000 c.weight (omega arith) weight (omega arith) j)
-    (behind_again 2 1 8 name_of (c.name ∷ decimal c.weight ∷ c.types) c.types c.types (omega (arith, low)) (omega (arith, high)) (names_again c.types n.1) j)))
+    (after_again 2 1 8 name_of (c.name ∷ decimal c.weight ∷ c.types) c.types c.types (omega (arith, low)) (omega (arith, high)) (names_again c.types n.1) j)))
 
 -- A VIRTUAL NODE
 
@@ -79,7 +79,7 @@ node_again v asked named limits asked_is =
     let desires : all_of weight_of (Ok []) (map with_number v.desires) ≡ Ok v.desires =
     all_again weight_of with_number v.desires [] (λ x h. numbered_again 0 1000000 x.0 x.1 (all_has (λ d. is_name d.0) v.desires d.1 x h) (omega arith) (leb-true x.1 1000000 (all_has (λ d. nat_le d.1 1000000) v.desires l.1 x h)) (omega arith)) in
     λ j. both_of (name_again v.name a.0 j) (both_of (name_again asked asked_is j) (both_of (name_again v.os d.0 j)
-    (behind_again 3 0 8 weight_of (v.name ∷ asked ∷ v.os ∷ map with_number v.desires) (map with_number v.desires) v.desires (omega arith) (omega (arith, few, count)) desires j)))
+    (after_again 3 0 8 weight_of (v.name ∷ asked ∷ v.os ∷ map with_number v.desires) (map with_number v.desires) v.desires (omega arith) (omega (arith, few, count)) desires j)))
 
 -- the class or the type that a virtual node asks for
 pub asks_again : (w : Wiring) (asks : Asks) → stands_again (λ a b. same_name a.name b.name) w.classes ≡ false → knows_class w asks ≡ true → asks_class_name w.classes asks ≡ false
@@ -105,11 +105,11 @@ abbrev pub end_read : Wiring → VirtEnd → End
 end_read w e = (virt_name w e.node, e.address)
 
 abbrev end_text : End → List ℕ
-end_text end = end.0 ++ behind_name end.1
+end_text end = end.0 ++ after_name end.1
 
-end_again : (name : List ℕ) (address : Option ℕ) → is_name name ≡ true → is_address address ≡ true → soundness.is_address address ≡ true → end_of (name ++ behind_name address) ≡ Ok (name, address)
+end_again : (name : List ℕ) (address : Option ℕ) → is_name name ≡ true → is_address address ≡ true → soundness.is_address address ≡ true → end_in_field (name ++ after_name address) ≡ Ok (name, address)
 end_again name None named short last =
-    ap end_of (append-nil name)
+    ap end_in_field (append-nil name)
     ∙ ap (λ (b : Bool). cond b (end_parts (pair_at 61 name)) (bare (name_of name))) (no_byte 61 name (no_byte_name 61 refl name named))
     ∙ ap bare (name_again name named)
 end_again name (Some a) named short last =
@@ -118,10 +118,10 @@ end_again name (Some a) named short last =
     ∙ ap end_parts (pair_again 61 name (address_text a) (no_byte_name 61 refl name named) (no_equals a (ltb-true a 4294967296 short)))
     ∙ (λ j. addressed (both_of (name_again name named j) (address_again a (ltb-true a 4294967296 short) (leb-true 1 (a % 256) p.0) (leb-true (a % 256) 254 p.1) j)))
 
-ends_again : (w : Wiring) (ends : List VirtEnd) → ((e : VirtEnd) → Has ends e → end_of (end_field w e) ≡ Ok (end_read w e)) → all_of end_of (Ok []) (map (end_field w) ends) ≡ Ok (map (end_read w) ends)
+ends_again : (w : Wiring) (ends : List VirtEnd) → ((e : VirtEnd) → Has ends e → end_in_field (end_field w e) ≡ Ok (end_read w e)) → all_of end_in_field (Ok []) (map (end_field w) ends) ≡ Ok (map (end_read w) ends)
 ends_again w ends each =
-    ap (all_of end_of (Ok [])) (sym (map-map end_text (end_read w) ends))
-    ∙ all_again end_of end_text (map (end_read w) ends) [] (λ r h. let at = Has-map (end_read w) ends r h in subst (λ (r : End). end_of (end_text r) ≡ Ok r) at.2 (each at.0 at.1))
+    ap (all_of end_in_field (Ok [])) (sym (map-map end_text (end_read w) ends))
+    ∙ all_again end_in_field end_text (map (end_read w) ends) [] (λ r h. let at = Has-map (end_read w) ends r h in subst (λ (r : End). end_in_field (end_text r) ≡ Ok r) at.2 (each at.0 at.1))
 
 pub link_again : (w : Wiring) (s : Segment) → named_segment s ≡ true → SegmentLimits s → ((e : VirtEnd) → Has s.ends e → is_name (virt_name w e.node) ≡ true)
     → link_line (s.name ∷ s.owner ∷ decimal s.kbps ∷ map (end_field w) s.ends) ≡ Ok (s.name, (s.owner, (s.kbps, map (end_read w) s.ends)))
@@ -131,7 +131,7 @@ link_again w s named limits ends_named =
     let count : length (map (end_field w) s.ends) ≡ length s.ends = length-map s.ends (end_field w) in
     let ends = ends_again w s.ends (λ e h. end_again (virt_name w e.node) e.address (ends_named e h) (all_has (λ e. is_address e.address) s.ends b.1 e h) (all_has (λ e. soundness.is_address e.address) s.ends limits.addresses e h)) in
     λ j. both_of (name_again s.name a.0 j) (both_of (name_again s.owner b.0 j) (both_of (number_back 1 1000000000 s.kbps limits.some limits.slow (omega arith) j)
-    (behind_again 3 2 256 end_of (s.name ∷ s.owner ∷ decimal s.kbps ∷ map (end_field w) s.ends) (map (end_field w) s.ends) (map (end_read w) s.ends) (omega (arith, limits.two, count)) (omega (arith, limits.few, count)) ends j)))
+    (after_again 3 2 256 end_in_field (s.name ∷ s.owner ∷ decimal s.kbps ∷ map (end_field w) s.ends) (map (end_field w) s.ends) (map (end_read w) s.ends) (omega (arith, limits.two, count)) (omega (arith, limits.few, count)) ends j)))
 
 -- A MULTIPLEXED SEGMENT
 

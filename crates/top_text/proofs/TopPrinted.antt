@@ -21,7 +21,7 @@ use Rattle.virt_topo.specs.declared.wiring.Wiring.{Wiring}
 use Rattle.virt_topo.specs.Soundness.{IsSound, limits_class, limits_node, limits_segment, knows_class}
 use Rattle.virt_topo.proofs.CableLaws.{limits_of, segment_limits}
 use Rattle.top_text.specs.Lines.{pipe_rates}
-use Rattle.top_text.specs.Canonical.{virt_name, asked_name, behind_name, address_text, end_field, class_fields, node_fields, fix_at, fix_lines, link_fields, multiplex_if, multiplex_lines, pipe_fields, wiring_lines}
+use Rattle.top_text.specs.Canonical.{virt_name, asked_name, after_name, address_text, end_field, class_fields, node_fields, fix_at, fix_lines, link_fields, multiplex_if, multiplex_lines, pipe_fields, wiring_lines}
 use Rattle.top_text.specs.Printable.{named_class, named_asks, named_node, named_place, named_segment, is_address}
 use Rattle.top_text.proofs.SoundTests.{sound_tests}
 use Rattle.top_text.proofs.TopLines.{rates_within, held}
@@ -63,7 +63,7 @@ address_plain a small =
     (part (a / 256 % 256) (omega arith)))
     (part (a % 256) (omega arith))
 
-end_plain : (name : List ℕ) (address : Option ℕ) → is_name name ≡ true → is_address address ≡ true → IsPlain (name ++ behind_name address)
+end_plain : (name : List ℕ) (address : Option ℕ) → is_name name ≡ true → is_address address ≡ true → IsPlain (name ++ after_name address)
 end_plain name None named short = subst IsPlain (sym (append-nil name)) (plain_name name named)
 end_plain name (Some a) named short = plain_append name (61 ∷ address_text a) (plain_name name named) (plain_append (61 ∷ []) (address_text a) sign (address_plain a (ltb-true a 4294967296 short)))
 

@@ -23,7 +23,7 @@ use Rattle.virt_topo.specs.declared.wiring.Wiring.{Wiring}
 use Rattle.virt_topo.specs.Ends.{end_nodes}
 use Rattle.virt_topo.specs.Soundness.{IsSound, limits_class, limits_node, limits_segment, are_rates, knows_class}
 use Rattle.virt_topo.proofs.CableLaws.{limits_of, segment_limits}
-use Rattle.top_text.specs.Canonical.{virt_name, asked_name, behind_name, address_text, end_field, class_fields, node_fields, fix_at, fix_lines, link_fields, multiplex_if, multiplex_lines, pipe_fields, canonical_top}
+use Rattle.top_text.specs.Canonical.{virt_name, asked_name, after_name, address_text, end_field, class_fields, node_fields, fix_at, fix_lines, link_fields, multiplex_if, multiplex_lines, pipe_fields, canonical_top}
 use Rattle.top_text.specs.Printable.{named_class, named_asks, named_node, named_place, named_segment, is_address, is_printable}
 use Rattle.top_text.proofs.SoundTests.{sound_tests}
 use Rattle.top_text.proofs.TopLines.{rates_within}
@@ -52,7 +52,7 @@ address_length a small =
     let z = length-append (decimal (a / 16777216) ++ 46 ∷ decimal (a / 65536 % 256) ++ 46 ∷ decimal (a / 256 % 256)) (46 ∷ decimal (a % 256)) in
     omega (arith, one, two, three, four, x, y, z)
 
-end_length : (name : List ℕ) (address : Option ℕ) → is_name name ≡ true → is_address address ≡ true → length (name ++ behind_name address) ≤ 48
+end_length : (name : List ℕ) (address : Option ℕ) → is_name name ≡ true → is_address address ≡ true → length (name ++ after_name address) ≤ 48
 end_length name None named short = omega (arith, length-append name [], name_short name named)
 end_length name (Some a) named short = omega (arith, length-append name (61 ∷ address_text a), name_short name named, address_length a (ltb-true a 4294967296 short))
 

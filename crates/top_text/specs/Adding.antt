@@ -121,7 +121,7 @@ added w (keyword ∷ fields) = keyed w keyword fields
 abbrev pub start : Wiring
 start = record { classes = []; nodes = []; segments = []; pipes = [] }
 
--- a wiring without a virtual node is `empty`, behind the last line
+-- a wiring without a virtual node is `empty`, after the last line
 abbrev pub finished : ℕ → Result Wiring TextFault → Result Wiring TextFault
 finished line (Err fault) = Err fault
 finished line (Ok w) = if length w.nodes == 0 then Err (record { line = line; kind = kinds.Empty }) else Ok w

@@ -22,12 +22,12 @@ class_name w c = slice_index_or (map (λ n. n.name) w.classes) c []
 abbrev pub address_text : ℕ → List ℕ
 address_text a = decimal (a / 16777216) ++ 46 ∷ decimal (a / 65536 % 256) ++ 46 ∷ decimal (a / 256 % 256) ++ 46 ∷ decimal (a % 256)
 
-abbrev pub behind_name : Option ℕ → List ℕ
-behind_name None = []
-behind_name (Some address) = 61 ∷ address_text address
+abbrev pub after_name : Option ℕ → List ℕ
+after_name None = []
+after_name (Some address) = 61 ∷ address_text address
 
 abbrev pub end_field : Wiring → VirtEnd → List ℕ
-end_field w end = virt_name w end.node ++ behind_name end.address
+end_field w end = virt_name w end.node ++ after_name end.address
 
 abbrev pub asked_name : Wiring → Asks → List ℕ
 asked_name w (Plain type) = type

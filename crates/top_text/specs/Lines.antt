@@ -1,4 +1,4 @@
--- The lines of a top text, by their fields behind the keyword.
+-- The lines of a top text, by their fields after the keyword.
 use Rattle.std.specs.Prelude.{ℕ, ◌==◌, List, length, Option, Some, None, Result, Ok, Err, if◌then◌else◌}
 use Rattle.lab_base.specs.Parts.{name_of, number_from}
 use Rattle.lab_base.specs.Kinds.{both_of}
@@ -6,7 +6,7 @@ use Rattle.lab_base.specs.declared.fault.Kind.{Kind}
 use Rattle.lab_base.specs.declared.fault.Kind.TheVariants as kinds
 use Rattle.lab_base.specs.declared.rates.Rates.{Rates}
 use Rattle.line_text.specs.Addresses.{address_of}
-use Rattle.line_text.specs.Fields.{field_at, list_behind}
+use Rattle.line_text.specs.Fields.{field_at, list_after}
 use Rattle.line_text.specs.Pairs.{has_byte, pair_at, numbered}
 use Rattle.line_text.specs.Rates.{both_rates_at}
 use Rattle.line_text.specs.declared.rates.RateLimits.{RateLimits}
@@ -30,8 +30,8 @@ abbrev pub end_parts : Option (List ℕ × List ℕ) → Result End Kind
 end_parts None = Err kinds.Fields
 end_parts (Some parts) = addressed (both_of (name_of parts.0) (address_of parts.1))
 
-abbrev pub end_of : List ℕ → Result End Kind
-end_of field = if has_byte 61 field then end_parts (pair_at 61 field) else bare (name_of field)
+abbrev pub end_in_field : List ℕ → Result End Kind
+end_in_field field = if has_byte 61 field then end_parts (pair_at 61 field) else bare (name_of field)
 
 abbrev pub weight_of : List ℕ → Result (List ℕ × ℕ) Kind
 weight_of field = numbered 0 1000000 field
@@ -48,7 +48,7 @@ as_class (Err kind) = Err kind
 
 -- `make-vclass NAME WEIGHT TYPE ..`
 abbrev pub class_line : List (List ℕ) → Result Class Kind
-class_line fields = as_class (both_of (name_of (field_at fields 0)) (both_of (number_from 0 1000000 (field_at fields 1)) (list_behind 2 1 8 name_of fields)))
+class_line fields = as_class (both_of (name_of (field_at fields 0)) (both_of (number_from 0 1000000 (field_at fields 1)) (list_after 2 1 8 name_of fields)))
 
 -- a virtual node's name, its type or class, its OS and its desires
 abbrev pub NodeRead : Type 0
@@ -56,7 +56,7 @@ NodeRead = List ℕ × (List ℕ × (List ℕ × List (List ℕ × ℕ)))
 
 -- `node NAME TYPE OS DESIRE:WEIGHT ..`
 abbrev pub node_line : List (List ℕ) → Result NodeRead Kind
-node_line fields = both_of (name_of (field_at fields 0)) (both_of (name_of (field_at fields 1)) (both_of (name_of (field_at fields 2)) (list_behind 3 0 8 weight_of fields)))
+node_line fields = both_of (name_of (field_at fields 0)) (both_of (name_of (field_at fields 1)) (both_of (name_of (field_at fields 2)) (list_after 3 0 8 weight_of fields)))
 
 -- `fix-node NODE PLACE`
 abbrev pub fix_line : List (List ℕ) → Result (List ℕ × List ℕ) Kind
@@ -68,7 +68,7 @@ LinkRead = List ℕ × (List ℕ × (ℕ × List End))
 
 -- `link NAME OWNER KBPS END ..`
 abbrev pub link_line : List (List ℕ) → Result LinkRead Kind
-link_line fields = both_of (name_of (field_at fields 0)) (both_of (name_of (field_at fields 1)) (both_of (number_from 1 1000000000 (field_at fields 2)) (list_behind 3 2 256 end_of fields)))
+link_line fields = both_of (name_of (field_at fields 0)) (both_of (name_of (field_at fields 1)) (both_of (number_from 1 1000000000 (field_at fields 2)) (list_after 3 2 256 end_in_field fields)))
 
 -- a pipe's virtual node, its two ends there, and its rates there and back
 abbrev pub PipeRead : Type 0

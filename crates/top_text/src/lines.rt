@@ -1,17 +1,17 @@
-// The lines of a top text, by their fields behind the keyword.
+// The lines of a top text, by their fields after the keyword.
 ghost use Rattle.std.specs.Prelude.{◌≡◌, [], Ok, IfOk, option_map};
 ghost use Rattle.lab_base.specs.Texts.{views};
 ghost use Rattle.lab_base.specs.Parts.{all_of, name_of, number_from};
 ghost use Rattle.lab_base.specs.Kinds.{both_of};
-ghost use Rattle.line_text.specs.Fields.{field_at, list_behind};
-ghost use Rattle.top_text.specs.Lines.{bare, addressed, end_parts, end_of, weight_of};
+ghost use Rattle.line_text.specs.Fields.{field_at, list_after};
+ghost use Rattle.top_text.specs.Lines.{bare, addressed, end_parts, end_in_field, weight_of};
 ghost use Rattle.top_text.specs.Lines.{as_class, class_line, node_line, fix_line, link_line, pipe_line, multiplex_line};
 
 use lab_base::{
     Items, Kind, ListRead, Memory, Name, Parts, Rates, add_read, both, name_in, number_in,
 };
 use line_text::{
-    RateLimits, address_in, both_rates_at, counts, field_at, fields_behind, has_byte, name_at,
+    RateLimits, address_in, both_rates_at, counts, field_at, fields_after, has_byte, name_at,
     numbered_weight, pair_in, short_in, weight_in,
 };
 use std::alloc::Global;
@@ -71,7 +71,7 @@ fn end_parts(parts: Option<Parts<'_>>) -> Result<End, Kind>
 }
 
 fn end_in(field: &[u8]) -> Result<End, Kind>
-    ensures { result ≡ end_of field.now }
+    ensures { result ≡ end_in_field field.now }
 {
     if has_byte(field, b'=') {
         end_parts(pair_in(field, b'='))
@@ -101,7 +101,7 @@ fn all_desires(alloc: Global, fields: &[&[u8]]) -> Result<ListRead<(Name, u32)>,
 }
 
 fn all_ends(alloc: Global, fields: &[&[u8]]) -> Result<ListRead<End>, Memory>
-    ensures { IfOk result (λ read. read ≡ all_of end_of (Ok []) (views fields.now)) }
+    ensures { IfOk result (λ read. read ≡ all_of end_in_field (Ok []) (views fields.now)) }
 {
     let mut so_far = Ok(Items::new(alloc));
     for field in fields {
@@ -111,30 +111,30 @@ fn all_ends(alloc: Global, fields: &[&[u8]]) -> Result<ListRead<End>, Memory>
 }
 
 fn types_in(alloc: Global, fields: &[&[u8]]) -> Result<ListRead<Name>, Memory>
-    ensures { IfOk result (λ read. read ≡ list_behind 2 1 8 name_of (views fields.now)) }
+    ensures { IfOk result (λ read. read ≡ list_after 2 1 8 name_of (views fields.now)) }
 {
     if counts(fields, 3, 10) {
-        all_names(alloc, fields_behind(fields, 2))
+        all_names(alloc, fields_after(fields, 2))
     } else {
         Ok(Err(Kind::Fields))
     }
 }
 
 fn desires_in(alloc: Global, fields: &[&[u8]]) -> Result<ListRead<(Name, u32)>, Memory>
-    ensures { IfOk result (λ read. read ≡ list_behind 3 0 8 weight_of (views fields.now)) }
+    ensures { IfOk result (λ read. read ≡ list_after 3 0 8 weight_of (views fields.now)) }
 {
     if counts(fields, 3, 11) {
-        all_desires(alloc, fields_behind(fields, 3))
+        all_desires(alloc, fields_after(fields, 3))
     } else {
         Ok(Err(Kind::Fields))
     }
 }
 
 fn ends_in(alloc: Global, fields: &[&[u8]]) -> Result<ListRead<End>, Memory>
-    ensures { IfOk result (λ read. read ≡ list_behind 3 2 MAX_SEGMENT_ENDS end_of (views fields.now)) }
+    ensures { IfOk result (λ read. read ≡ list_after 3 2 MAX_SEGMENT_ENDS end_in_field (views fields.now)) }
 {
     if counts(fields, 5, 259) {
-        all_ends(alloc, fields_behind(fields, 3))
+        all_ends(alloc, fields_after(fields, 3))
     } else {
         Ok(Err(Kind::Fields))
     }
@@ -153,7 +153,7 @@ fn as_class(read: Result<(Name, (u32, Items<Name>)), Kind>) -> Result<Class, Kin
     }
 }
 
-/// Reads the fields of a `make-vclass` line, behind its keyword.
+/// Reads the fields of a `make-vclass` line, after its keyword.
 pub(crate) fn class_in(alloc: Global, fields: &[&[u8]]) -> Result<Result<Class, Kind>, Memory>
     ensures { IfOk result (λ read. read ≡ class_line (views fields.now)) }
 {
@@ -168,7 +168,7 @@ pub(crate) fn class_in(alloc: Global, fields: &[&[u8]]) -> Result<Result<Class, 
 /// A virtual node's name, its type or class, its OS and its desires.
 pub(crate) type NodeRead = (Name, (Name, (Name, Items<(Name, u32)>)));
 
-/// Reads the fields of a `node` line, behind its keyword.
+/// Reads the fields of a `node` line, after its keyword.
 pub(crate) fn node_in(alloc: Global, fields: &[&[u8]]) -> Result<Result<NodeRead, Kind>, Memory>
     ensures { IfOk result (λ read. read ≡ node_line (views fields.now)) }
 {
@@ -181,7 +181,7 @@ pub(crate) fn node_in(alloc: Global, fields: &[&[u8]]) -> Result<Result<NodeRead
     Ok(both(name, behind))
 }
 
-/// Reads the fields of a `fix-node` line, behind its keyword.
+/// Reads the fields of a `fix-node` line, after its keyword.
 pub(crate) fn fix_in(fields: &[&[u8]]) -> Result<(Name, Name), Kind>
     ensures { result ≡ fix_line (views fields.now) }
 {
@@ -195,7 +195,7 @@ pub(crate) fn fix_in(fields: &[&[u8]]) -> Result<(Name, Name), Kind>
 /// A segment's name, its owner, its kbps and its ends.
 pub(crate) type LinkRead = (Name, (Name, (u64, Items<End>)));
 
-/// Reads the fields of a `link` line, behind its keyword.
+/// Reads the fields of a `link` line, after its keyword.
 pub(crate) fn link_in(alloc: Global, fields: &[&[u8]]) -> Result<Result<LinkRead, Kind>, Memory>
     ensures { IfOk result (λ read. read ≡ link_line (views fields.now)) }
 {
@@ -225,7 +225,7 @@ fn pipe_ends_at(fields: &[&[u8]]) -> Result<(u16, u16), Kind>
     pipe_ends_in(from, to)
 }
 
-/// Reads the fields of a `pipe` line, behind its keyword.
+/// Reads the fields of a `pipe` line, after its keyword.
 pub(crate) fn pipe_in(fields: &[&[u8]]) -> Result<PipeRead, Kind>
     ensures { result ≡ pipe_line (views fields.now) }
 {
@@ -239,7 +239,7 @@ pub(crate) fn pipe_in(fields: &[&[u8]]) -> Result<PipeRead, Kind>
     both(name, behind)
 }
 
-/// Reads the fields of a `multiplex` line, behind its keyword.
+/// Reads the fields of a `multiplex` line, after its keyword.
 pub(crate) fn multiplex_in(fields: &[&[u8]]) -> Result<Name, Kind>
     ensures { result ≡ multiplex_line (views fields.now) }
 {

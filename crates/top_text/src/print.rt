@@ -5,7 +5,7 @@ ghost use Rattle.line_text.specs.Printing.{line_text, spaced, text_of, with_numb
 ghost use Rattle.virt_topo.specs.Soundness.{IsSound};
 ghost use Rattle.top_text.specs.Adding.{wiring_of_text};
 ghost use Rattle.top_text.specs.Printable.{named_asks, named_class, named_node, named_place, named_segment, is_address, is_printable};
-ghost use Rattle.top_text.specs.Canonical.{virt_name, class_name, address_text, behind_name, end_field, asked_name};
+ghost use Rattle.top_text.specs.Canonical.{virt_name, class_name, address_text, after_name, end_field, asked_name};
 ghost use Rattle.top_text.specs.Canonical.{class_fields, node_fields, fix_at, fix_lines, link_fields, multiplex_lines, pipe_fields, canonical_top};
 
 use lab_base::{MAX_PAYLOAD_TEXT, Memory, Name, Text};
@@ -148,8 +148,8 @@ fn push_address(text: &mut Text, address: u32) -> Result<(), Memory>
     text.push_number(u64::from(address % 256))
 }
 
-fn push_behind_name(text: &mut Text, address: Option<u32>) -> Result<(), Memory>
-    ensures text { OnOk result (text.new ≡ text.old ++ behind_name address) }
+fn push_after_name(text: &mut Text, address: Option<u32>) -> Result<(), Memory>
+    ensures text { OnOk result (text.new ≡ text.old ++ after_name address) }
     ensures named { OnOk result (is_address address ≡ true) }
 {
     match address {
@@ -166,7 +166,7 @@ fn push_end(text: &mut Text, wiring: &Wiring, end: VirtEnd) -> Result<(), Memory
     ensures named { OnOk result (is_address end.address ≡ true) }
 {
     push_word(text, virt_name(wiring, usize::from(end.node)))?;
-    push_behind_name(text, end.address)
+    push_after_name(text, end.address)
 }
 
 fn push_ends(text: &mut Text, wiring: &Wiring, ends: &[VirtEnd]) -> Result<(), Memory>

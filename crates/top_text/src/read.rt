@@ -19,7 +19,7 @@ fn empty_at(line: u32) -> TextRefused
     })
 }
 
-/// The wiring as read, if it has a virtual node. `line` is the number behind the text's last line.
+/// The wiring as read, if it has a virtual node. `line` is the number after the text's last line.
 fn finish(so_far: SoFar, line: u32) -> Result<Wiring, TextRefused>
     requires { IsReading so_far }
     ensures reads { Reads result (finished line (Ok so_far.wiring)) }

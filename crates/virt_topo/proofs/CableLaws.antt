@@ -96,7 +96,7 @@ use_bound side (s ∷ segments) plugs all =
     let ends = ends_from (s ∷ segments) 0 s (omega arith) refl in
     omega (arith, own, later, sum, ends)
 
--- the cable at i, and those behind it
+-- the cable at i, and those after it
 pub use_from : (side : List Bool) (segments : List Segment) (i : ℕ) (s : Segment) (plugs : List IfaceId) → i < length segments → s ≡ get_or segments i s
     → cut_use side (cables (drop i segments) plugs) ≡ cable_use side (record { segment = s; plugs = take (length s.ends) plugs }) + cut_use side (cables (drop (i + 1) segments) (drop (length s.ends) plugs))
 use_from side segments i s plugs lt is =

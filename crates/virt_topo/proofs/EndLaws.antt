@@ -69,7 +69,7 @@ end_number_le (x ∷ xs) v k = by (eqb x v) (eqb k 0) (end_number_le xs v (k - 1
 pub le_less : (a b x most : ℕ) → a ≡ x + b → x ≤ most → nat_le b (most - x) ≡ nat_le a most
 le_less a b x most sum le = grind (arith, nat_tests)
 
--- the ends of the segment at i, and those behind it
+-- the ends of the segment at i, and those after it
 pub nodes_with : (segments : List Segment) (i : ℕ) (s : Segment) (ends : List VirtEnd) → i < length segments → s ≡ get_or segments i s → ends ≡ s.ends
     → end_nodes (drop i segments) ≡ nodes_of ends ++ end_nodes (drop (i + 1) segments)
 nodes_with segments i s ends lt is same = nodes_from segments i s lt is ∙ ap (λ (l : List VirtEnd). nodes_of l ++ end_nodes (drop (i + 1) segments)) (sym same)

@@ -9,7 +9,7 @@ use Rattle.virt_topo.specs.Soundness.{all_ends, same_address}
 use Rattle.virt_topo.specs.declared.wiring.Segment.{Segment}
 use Rattle.virt_topo.specs.declared.wiring.VirtEnd.{VirtEnd}
 
--- the ends of the segment at i, and those behind it
+-- the ends of the segment at i, and those after it
 pub any_from : (p : VirtEnd → Bool) (segments : List Segment) (i : ℕ) (s : Segment) (ends : List VirtEnd) → i < length segments → s ≡ get_or segments i s → ends ≡ s.ends
     → list_any p (all_ends (drop i segments)) ≡ (list_any p ends || list_any p (all_ends (drop (i + 1) segments)))
 any_from p segments i s ends lt is same =

@@ -30,7 +30,7 @@ IsWord bytes = (1 ≤ length bytes) × (list_all is_word_byte bytes ≡ true)
 abbrev pub IsIndex : List ℕ → Type 0
 IsIndex bytes = (1 ≤ length bytes) × (list_all (λ b. is_word_byte b || (b == 45)) bytes ≡ true)
 
--- the name that a variable gives: `v`, and `v-i` for `v(i)`; or that of the k-th without a variable, behind those bytes
+-- the name that a variable gives: `v`, and `v-i` for `v(i)`; or that of the k-th without a variable, after those bytes
 pub data IsAskedName (numbered : List ℕ) (name : List ℕ) : Type 0 where
   plain : IsWord name → IsAskedName numbered name
   indexed : (v : List ℕ) (i : List ℕ) → IsWord v → IsIndex i → name ≡ v ++ 45 ∷ i → IsAskedName numbered name

@@ -149,7 +149,7 @@ fn have_address(segments: &[Segment], end: VirtEnd) -> bool
     false
 }
 
-/// Whether an address of some ends stands again in these ends or in the segments behind them.
+/// Whether an address of some ends stands again in these ends or in the segments after them.
 fn repeat_address_in(ends: &[VirtEnd], later: &[Segment]) -> bool
     ensures { (result || stands_again same_address (all_ends later.now)) ≡ stands_again same_address (ends.now ++ all_ends later.now) }
 {

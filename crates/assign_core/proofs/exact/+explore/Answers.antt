@@ -17,7 +17,7 @@ use Rattle.assign_core.proofs.Choosing.{best_free, found, with_each, found_none,
 use Rattle.assign_core.proofs.Passing.{passed_over}
 use Rattle.assign_core.proofs.exact.+explore.Goals as goal
 
--- the best map behind one candidate more
+-- the best map after one candidate more
 best_more : (s : Sought) (maps : List Mapping) (places items : List Place) (k : ℕ) (x : Place) (o : Option Priced) → k < length items → x ≡ get_or items k no_place
     → IsBest s ((maps ++ found s (with_each places (take k items)) (drop (length places + 1) (choices s))) ++ found s ((places ++ x ∷ []) ∷ []) (drop (length places + 1) (choices s))) o
     → IsBest s (maps ++ found s (with_each places (take (k + 1) items)) (drop (length places + 1) (choices s))) o

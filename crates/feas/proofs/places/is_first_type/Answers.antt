@@ -2,7 +2,7 @@ use Rattle.std.proofs.Common.{◌≡◌, ◌+◌, Bool, false, cond, drop, get_o
 use Rattle.virt_topo.specs.declared.wiring.VirtNode.{VirtNode}
 use Rattle.virt_topo.specs.Wirings.{no_virt}
 use Rattle.lab_model.specs.Rules.{is_member, first_type, no_place}
-use Rattle.feas.proofs.GuestLaws.{first_step}
+use Rattle.feas.proofs.HostedNodeLaws.{first_step}
 use Rattle.feas.proofs.places.is_first_type.Goals as goal
 
 pub loop-virt-preserved : goal.loop-virt-preserved

@@ -2,7 +2,7 @@ use Rattle.std.proofs.Common.{◌≡◌, false, not, ap, arith}
 use Rattle.script_text.specs.Replies.{closes}
 use Rattle.folder_rows.proofs.limits.obeyed.Goals as goal
 
--- it works with the swaps that are open behind the command
+-- it works with the swaps that are open after the command
 pub returns-else-closes : goal.returns-else-closes
 returns-else-closes g c =
     let works = c.requires.works in

@@ -1,7 +1,7 @@
 use Rattle.std.proofs.Common.{◌<◌, ℕ, Bool, List, Option, MatchOption, length, get_or, sym, ap, subst, ◌∙◌}
-use Rattle.lab_ahead.specs.declared.trail.Step.{Step}
-use Rattle.lab_ahead.specs.declared.trail.Trail.{Trail}
-use Rattle.lab_ahead.specs.Trails.{AreMet, IsWanting, Reached, given_of, owners_in, table_in}
+use Rattle.lab_ahead.specs.declared.tree.Step.{Step}
+use Rattle.lab_ahead.specs.declared.tree.SearchTree.{SearchTree}
+use Rattle.lab_ahead.specs.SearchTrees.{AreMet, IsWanting, Reached, given_of, owners_in, table_in}
 use Rattle.lab_ahead.proofs.Exchanges.{table_still}
 use Rattle.lab_ahead.proofs.Halls.{never_fits}
 use Rattle.lab_ahead.proofs.Shown.{fresh_whole, shows_giving, shows_short, steps_within}
@@ -16,7 +16,7 @@ returns-in-None-clause-shows c lab is =
     let last = c.serve_all.new.self in
     let now = c.in_ok-serve_all.ensures in
     let met : AreMet needs (length needs) (owners_in last) =
-    subst (λ (o : Option Trail). MatchOption o (AreMet needs (length needs) (owners_in last)) (IsWanting needs (table_in last) (owners_in last))) c.in-None.is now.answer in
+    subst (λ (o : Option SearchTree). MatchOption o (AreMet needs (length needs) (owners_in last)) (IsWanting needs (table_in last) (owners_in last))) c.in-None.is now.answer in
     shows_giving lab c.args.left.now needs c.in_ok-giving.giving last (c.in_ok-giving.ensures.rows ∙ is) c.in_ok-giving.ensures.owners now.nodes now.whole c.requires.differ met c.in_ok-given_of-in-None.field-0
     (c.in_ok-given_of-in-None.ensures ∙ ap (λ (o : List (Option ℕ)). given_of c.args.left.now o) c.deref.ensures.value)
 
@@ -26,7 +26,7 @@ returns-in-None-clause-exact c lab is =
     let last = c.serve_all.new.self in
     let now = c.in_ok-serve_all.ensures in
     let met : AreMet needs (length needs) (owners_in last) =
-    subst (λ (o : Option Trail). MatchOption o (AreMet needs (length needs) (owners_in last)) (IsWanting needs (table_in last) (owners_in last))) c.in-None.is now.answer in (
+    subst (λ (o : Option SearchTree). MatchOption o (AreMet needs (length needs) (owners_in last)) (IsWanting needs (table_in last) (owners_in last))) c.in-None.is now.answer in (
       λ _. (
         c.in_ok-given_of-in-None.field-0,
         shows_giving lab c.args.left.now needs c.in_ok-giving.giving last (c.in_ok-giving.ensures.rows ∙ is) c.in_ok-giving.ensures.owners now.nodes now.whole c.requires.differ met c.in_ok-given_of-in-None.field-0
@@ -40,10 +40,10 @@ kinds_reached-requires c =
     let needs = c.args.needs.now in
     let last = c.serve_all.new.self in
     let now = c.in_ok-serve_all.ensures in
-    let wanting : IsWanting needs (table_in last) (owners_in last) c.in-Some.trail =
-    subst (λ (o : Option Trail). MatchOption o (AreMet needs (length needs) (owners_in last)) (IsWanting needs (table_in last) (owners_in last))) c.in-Some.is now.answer in
+    let wanting : IsWanting needs (table_in last) (owners_in last) c.in-Some.tree =
+    subst (λ (o : Option SearchTree). MatchOption o (AreMet needs (length needs) (owners_in last)) (IsWanting needs (table_in last) (owners_in last))) c.in-Some.is now.answer in
     subst (λ (l : List Step). (k : ℕ) (d : Step) → k < length l → (get_or l k d).need < length needs) (sym c.deref-in-Some.ensures.value)
-    (steps_within needs last (ap (λ (t : List (List Bool)). length t) (table_still c.in_ok-giving.giving last now.nodes ∙ c.in_ok-giving.ensures.rows) ∙ c.requires.table.many) c.in-Some.trail wanting)
+    (steps_within needs last (ap (λ (t : List (List Bool)). length t) (table_still c.in_ok-giving.giving last now.nodes ∙ c.in_ok-giving.ensures.rows) ∙ c.requires.table.many) c.in-Some.tree wanting)
 
 pub returns-clause-shows : goal.returns-clause-shows
 returns-clause-shows c lab is =
@@ -52,9 +52,9 @@ returns-clause-shows c lab is =
     let now = c.in_ok-serve_all.ensures in
     let found = c.in_ok-kinds_reached-in-Some.ensures in
     let steps = c.deref-in-Some.ensures.value in
-    let wanting : IsWanting needs (table_in last) (owners_in last) c.in-Some.trail =
-    subst (λ (o : Option Trail). MatchOption o (AreMet needs (length needs) (owners_in last)) (IsWanting needs (table_in last) (owners_in last))) c.in-Some.is now.answer in
-    shows_short lab c.args.left.now needs c.in_ok-giving.giving last (c.in_ok-giving.ensures.rows ∙ is) c.in_ok-giving.ensures.owners now.nodes now.whole c.in-Some.trail wanting
+    let wanting : IsWanting needs (table_in last) (owners_in last) c.in-Some.tree =
+    subst (λ (o : Option SearchTree). MatchOption o (AreMet needs (length needs) (owners_in last)) (IsWanting needs (table_in last) (owners_in last))) c.in-Some.is now.answer in
+    shows_short lab c.args.left.now needs c.in_ok-giving.giving last (c.in_ok-giving.ensures.rows ∙ is) c.in_ok-giving.ensures.owners now.nodes now.whole c.in-Some.tree wanting
     c.in_ok-kinds_reached-in-Some.field-0 found.rising (λ n reached. found.all n (subst (λ (l : List Step). Reached l n) (sym steps) reached))
     (λ kind has. let from = found.only kind has in (from.0, subst (λ (l : List Step). Reached l from.0) steps from.1, from.2))
 
@@ -65,10 +65,10 @@ returns-clause-exact c lab is =
     let now = c.in_ok-serve_all.ensures in
     let found = c.in_ok-kinds_reached-in-Some.ensures in
     let steps = c.deref-in-Some.ensures.value in
-    let wanting : IsWanting needs (table_in last) (owners_in last) c.in-Some.trail =
-    subst (λ (o : Option Trail). MatchOption o (AreMet needs (length needs) (owners_in last)) (IsWanting needs (table_in last) (owners_in last))) c.in-Some.is now.answer in
+    let wanting : IsWanting needs (table_in last) (owners_in last) c.in-Some.tree =
+    subst (λ (o : Option SearchTree). MatchOption o (AreMet needs (length needs) (owners_in last)) (IsWanting needs (table_in last) (owners_in last))) c.in-Some.is now.answer in
     let short =
-    shows_short lab c.args.left.now needs c.in_ok-giving.giving last (c.in_ok-giving.ensures.rows ∙ is) c.in_ok-giving.ensures.owners now.nodes now.whole c.in-Some.trail wanting
+    shows_short lab c.args.left.now needs c.in_ok-giving.giving last (c.in_ok-giving.ensures.rows ∙ is) c.in_ok-giving.ensures.owners now.nodes now.whole c.in-Some.tree wanting
     c.in_ok-kinds_reached-in-Some.field-0 found.rising (λ n reached. found.all n (subst (λ (l : List Step). Reached l n) (sym steps) reached))
     (λ kind has. let from = found.only kind has in (from.0, subst (λ (l : List Step). Reached l from.0) steps from.1, from.2)) in
     (λ none. absurd none, never_fits lab c.args.left.now needs c.in_ok-kinds_reached-in-Some.field-0 short)

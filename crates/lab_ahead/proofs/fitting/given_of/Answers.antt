@@ -1,6 +1,6 @@
 use Rattle.std.proofs.Common.{ℕ, ◌+◌, ◌++◌, List, [], ◌∷◌, Option, drop, get_or, append_assoc, sym, ap, ◌∙◌, arith}
 use Rattle.lab_base.specs.declared.ids.NodeId.{NodeId}
-use Rattle.lab_ahead.specs.Trails.{given_of, owner_at}
+use Rattle.lab_ahead.specs.SearchTrees.{given_of, owner_at}
 use Rattle.lab_ahead.proofs.GivenLaws.{given_at, none_from, pair_of}
 use Rattle.lab_ahead.proofs.fitting.given_of.Goals as goal
 use Rattle.lab_ahead.proofs.fitting.given_of.Goals.{in-Some+in_ok-push, in_default}

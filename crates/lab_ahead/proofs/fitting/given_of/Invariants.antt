@@ -1,5 +1,5 @@
 use Rattle.std.proofs.Common.{◌≡◌, ◌++◌, drop}
-use Rattle.lab_ahead.specs.Trails.{given_of}
+use Rattle.lab_ahead.specs.SearchTrees.{given_of}
 use Rattle.lab_ahead.proofs.fitting.given_of.Given as goal
 
 abbrev pub invariant-loop-i : goal.invariant-loop-i

@@ -5,9 +5,9 @@ use Rattle.std.specs.Cmp.Lexicographic.{slice_cmp}
 use Rattle.std.proofs.lemmas.List.{take_all}
 use Rattle.lab_base.specs.Lists.{Has}
 use Rattle.lab_base.proofs.Members.{Has-map, Has-mapped, Has-place, Has-get_or}
-use Rattle.lab_ahead.specs.declared.trail.Step.{Step}
+use Rattle.lab_ahead.specs.declared.tree.Step.{Step}
 use Rattle.lab_ahead.specs.Givings.{need_at}
-use Rattle.lab_ahead.specs.Trails.{step_at}
+use Rattle.lab_ahead.specs.SearchTrees.{step_at}
 use Rattle.lab_ahead.proofs.SortLaws.{names_before, names_kept, names_rising}
 use Rattle.lab_ahead.proofs.fitting.kinds_reached.Goals as goal
 

@@ -1,6 +1,6 @@
 use Rattle.std.proofs.Common.{◌≡◌, take}
 use Rattle.phys_lab.specs.Tables.{rows}
-use Rattle.lab_ahead.specs.Trails.{table_of}
+use Rattle.lab_ahead.specs.SearchTrees.{table_of}
 use Rattle.lab_ahead.proofs.giving.table_of.Given as goal
 
 abbrev pub invariant-loop-need : goal.invariant-loop-need

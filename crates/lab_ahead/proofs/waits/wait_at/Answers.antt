@@ -4,7 +4,7 @@ use Rattle.lab_base.specs.declared.ids.NodeId.{NodeId}
 use Rattle.lab_ahead.specs.declared.fitting.Need.{Need}
 use Rattle.phys_lab.specs.Tables.{rows}
 use Rattle.lab_ahead.specs.Moments.{needs_at}
-use Rattle.lab_ahead.specs.Trails.{IsTable}
+use Rattle.lab_ahead.specs.SearchTrees.{IsTable}
 use Rattle.lab_ahead.proofs.Shown.{is_table}
 use Rattle.lab_ahead.proofs.WaitLaws.{few_needs, left_differ, left_within}
 use Rattle.lab_ahead.proofs.waits.wait_at.Goals as goal

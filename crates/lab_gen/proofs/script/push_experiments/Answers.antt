@@ -1,22 +1,22 @@
 use Rattle.std.proofs.Common.{◌≡◌, ◌∙◌, ◌+◌, ◌-◌, ◌%◌, ◌++◌, ℕ, add-one, arith, sym, ap, refl}
 use Rattle.rand_pcg.specs.Lcg.{Lcg}
 use Rattle.rand_pcg.specs.Pcg.{pcg32}
-use Rattle.lab_gen.specs.Script.{drawn_lines, experiment_lines, generator_behind, text_of, virtual_nodes}
+use Rattle.lab_gen.specs.Script.{drawn_lines, experiment_lines, generator_after, text_of, virtual_nodes}
 use Rattle.lab_gen.proofs.Texts.{texts_more, texts_none}
 use Rattle.lab_gen.proofs.script.push_experiments.Goals as goal
 
 -- the virtual nodes of the next experiment, and the generator after them
-drawn : (seed place nodes : ℕ) (words : Lcg) → words ≡ generator_behind seed place → nodes ≡ 2 + (pcg32 words).0 % 5 → nodes ≡ virtual_nodes seed (1 + place)
+drawn : (seed place nodes : ℕ) (words : Lcg) → words ≡ generator_after seed place → nodes ≡ 2 + (pcg32 words).0 % 5 → nodes ≡ virtual_nodes seed (1 + place)
 drawn seed place nodes words is made =
     let before : 1 + place - 1 ≡ place = omega arith in
-    made ∙ ap (λ (g : Lcg). 2 + (pcg32 g).0 % 5) (is ∙ sym (ap (generator_behind seed) before))
+    made ∙ ap (λ (g : Lcg). 2 + (pcg32 g).0 % 5) (is ∙ sym (ap (generator_after seed) before))
 
-next : (seed place : ℕ) (words new : Lcg) → words ≡ generator_behind seed place → new ≡ (pcg32 words).1 → new ≡ generator_behind seed (place + 1)
-unfolding generator_behind
+next : (seed place : ℕ) (words new : Lcg) → words ≡ generator_after seed place → new ≡ (pcg32 words).1 → new ≡ generator_after seed (place + 1)
+unfolding generator_after
 next seed place words new is after = rw add-one (after ∙ ap (λ (g : Lcg). (pcg32 g).1) is)
 
 pub loop-place-init : goal.loop-place-init
-unfolding generator_behind
+unfolding generator_after
 loop-place-init c = record { text = texts_none (drawn_lines c.args.seed) 1 c.args.text.now; words = c.seed_from_u64-words.ensures }
 
 pub loop-place-preserved : goal.loop-place-preserved

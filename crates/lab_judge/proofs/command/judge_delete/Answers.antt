@@ -19,7 +19,7 @@ returns-in_err-_idle-clause-judged c =
 
 pub returns-clause-judged : goal.returns-clause-judged
 returns-clause-judged c =
-    given_by (need_idle_out c.args.present.now.state.now.state (has_open c.args.present.now.swaps.now c.args.exp) c.args.exp) (λ p. Ok (Append (Delete c.args.exp) (Deleted c.args.exp))) (c.in_ok-_idle._idle.0.now, c.in_ok-_idle._idle.1.now) (Ok (tasks.Append c.delete_record.result (Deleted c.args.exp))) c.in_ok-_idle.ensures.place
+    given_by (need_idle_out c.args.present.now.state.now.state (has_open c.args.present.now.swaps.now c.args.exp) c.args.exp) (λ p. Ok (Append (Delete c.args.exp) (Deleted c.args.exp))) (c.in_ok-_idle._idle.0.now, c.in_ok-_idle._idle.1.now) (Ok (tasks.Append c.delete_record.result (Deleted c.args.exp))) c.in_ok-_idle.ensures.occupied
     (ap (λ (r : Record). let j : Result Task Reply = Ok (Append r (Deleted c.args.exp)) in j) (sym c.delete_record.ensures.entry))
 
 pub returns-clause-can : goal.returns-clause-can

@@ -28,7 +28,7 @@ plan_out-requires-clause-tagged c = (stands_sound c.args.present.now.state.now.s
 
 pub returns-clause-judged : goal.returns-clause-judged
 returns-clause-judged c =
-    given_by (need_idle_in c.args.present.now.state.now.state (has_open c.args.present.now.swaps.now c.args.exp) c.args.exp) (λ p. Ok (Swap c.args.exp WayOut)) (c.in_ok-lab.lab.now, c.in_ok-lab.experiment.now) (Ok (tasks.Swap (record { exp = c.args.exp; way = c.way_out.result; ops = c.in_ok-ops.ops }))) c.in_ok-lab.ensures.place
+    given_by (need_idle_in c.args.present.now.state.now.state (has_open c.args.present.now.swaps.now c.args.exp) c.args.exp) (λ p. Ok (Swap c.args.exp WayOut)) (c.in_ok-lab.lab.now, c.in_ok-lab.experiment.now) (Ok (tasks.Swap (record { exp = c.args.exp; way = c.way_out.result; ops = c.in_ok-ops.ops }))) c.in_ok-lab.ensures.occupied
     (ap (λ (w : Way). let j : Result Task Reply = Ok (Swap c.args.exp w) in j) (sym c.way_out.ensures.way))
 
 pub returns-clause-can : goal.returns-clause-can

@@ -17,4 +17,4 @@ judge_found-requires-clause-sound g c = sound_of c.args.present.now.state.now.st
 pub returns-clause-judged : goal.returns-clause-judged
 returns-clause-judged g c =
     let exp = c.args.run.now.exp in
-    asked_so (need_idle_out c.args.present.now.state.now.state (has_open c.args.present.now.swaps.now exp) exp) _ (c.in_ok-lab.lab.now, c.in_ok-lab.experiment.now) c.judge_found.result c.in_ok-lab.ensures.place c.judge_found.ensures.judged
+    asked_so (need_idle_out c.args.present.now.state.now.state (has_open c.args.present.now.swaps.now exp) exp) _ (c.in_ok-lab.lab.now, c.in_ok-lab.experiment.now) c.judge_found.result c.in_ok-lab.ensures.occupied c.judge_found.ensures.judged

@@ -13,10 +13,10 @@ returns-in_err-lab-clause-judged g c =
 
 pub returns-in-Ok-clause-judged : goal.returns-in-Ok-clause-judged
 returns-in-Ok-clause-judged g c =
-    asked_so (need_idle_in c.args.present.now.state.now.state (has_open c.args.present.now.swaps.now c.args.exp) c.args.exp) _ (c.in_ok-lab.lab.now, c.in_ok-lab.experiment.now) c.judge_move.result c.in_ok-lab.ensures.place
+    asked_so (need_idle_in c.args.present.now.state.now.state (has_open c.args.present.now.swaps.now c.args.exp) c.args.exp) _ (c.in_ok-lab.lab.now, c.in_ok-lab.experiment.now) c.judge_move.result c.in_ok-lab.ensures.occupied
     (text_so c.args.exp c.args.text.now _ c.in-Ok.wiring c.judge_move.result c.in-Ok.ensures.wiring c.judge_move.ensures.judged)
 
 pub returns-in-Err-clause-judged : goal.returns-in-Err-clause-judged
 returns-in-Err-clause-judged g c =
-    asked_so (need_idle_in c.args.present.now.state.now.state (has_open c.args.present.now.swaps.now c.args.exp) c.args.exp) _ (c.in_ok-lab.lab.now, c.in_ok-lab.experiment.now) (Err c.bad_text.result) c.in_ok-lab.ensures.place
+    asked_so (need_idle_in c.args.present.now.state.now.state (has_open c.args.present.now.swaps.now c.args.exp) c.args.exp) _ (c.in_ok-lab.lab.now, c.in_ok-lab.experiment.now) (Err c.bad_text.result) c.in_ok-lab.ensures.occupied
     (fault_refuses c.args.exp c.args.text.now _ c.in-Err.refused c.bad_text.result c.in-Err.ensures.wiring c.bad_text.ensures)

@@ -15,13 +15,13 @@ returns-in_err-lab-clause-judged g c =
 pub search-requires-clause-sound : goal.search-requires-clause-sound
 search-requires-clause-sound g c = sound_of c.args.present.now.state.now.state c.in_ok-lab.lab.now c.in_ok-lab.experiment.now c.in_ok-lab.ensures.out.there
 
-pub tell_found-requires-clause-sound : goal.tell_found-requires-clause-sound
-tell_found-requires-clause-sound g c = sound_of c.args.present.now.state.now.state c.in_ok-lab.lab.now c.in_ok-lab.experiment.now c.in_ok-lab.ensures.out.there
+pub reply_found-requires-clause-sound : goal.reply_found-requires-clause-sound
+reply_found-requires-clause-sound g c = sound_of c.args.present.now.state.now.state c.in_ok-lab.lab.now c.in_ok-lab.experiment.now c.in_ok-lab.ensures.out.there
 
 pub returns-clause-judged : goal.returns-clause-judged
 returns-clause-judged g c =
     let s = c.args.present.now.state.now.state in
     let lab = c.in_ok-lab.lab.now in
     let e = c.in_ok-lab.experiment.now in
-    asked_so (need_idle_out s (has_open c.args.present.now.swaps.now c.args.exp) c.args.exp) _ (lab, e) c.tell_found.result c.in_ok-lab.ensures.place
-    (found_so c.args.rule.now.number s lab e e.wiring c.args.seed (judged_solved lab e) c.in_ok-found.found c.tell_found.result c.in_ok-found.ensures.found c.tell_found.ensures.judged)
+    asked_so (need_idle_out s (has_open c.args.present.now.swaps.now c.args.exp) c.args.exp) _ (lab, e) c.reply_found.result c.in_ok-lab.ensures.occupied
+    (found_so c.args.rule.now.number s lab e e.wiring c.args.seed (judged_solved lab e) c.in_ok-found.found c.reply_found.result c.in_ok-found.ensures.found c.reply_found.ensures.judged)

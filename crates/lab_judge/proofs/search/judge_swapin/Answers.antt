@@ -15,5 +15,5 @@ judge_entry-requires-clause-sound g c = sound_of c.args.present.now.state.now.st
 
 pub returns-clause-judged : goal.returns-clause-judged
 returns-clause-judged g c =
-    asked_so (need_idle_out c.args.present.now.state.now.state (has_open c.args.present.now.swaps.now c.args.exp) c.args.exp) _ (c.in_ok-lab.lab.now, c.in_ok-lab.experiment.now) c.judge_entry.result c.in_ok-lab.ensures.place
+    asked_so (need_idle_out c.args.present.now.state.now.state (has_open c.args.present.now.swaps.now c.args.exp) c.args.exp) _ (c.in_ok-lab.lab.now, c.in_ok-lab.experiment.now) c.judge_entry.result c.in_ok-lab.ensures.occupied
     c.judge_entry.ensures.judged

@@ -1,10 +1,10 @@
 use Rattle.std.proofs.Common.{sym, ◌∙◌, arith}
 use Rattle.std.proofs.lemmas.Bool.{false≢true}
-use Rattle.lab_picture.specs.declared.geometry.Place.{Place}
-use Rattle.lab_layout.proofs.Pairs.{pairs_more, pairs_behind}
+use Rattle.lab_picture.specs.declared.geometry.Bounds.{Bounds}
+use Rattle.lab_layout.proofs.Pairs.{pairs_more, pairs_after}
 use Rattle.lab_layout.proofs.apart.all_are_apart.Goals as goal
 
-abbrev none : Place
+abbrev none : Bounds
 none = record { x = 0; y = 0; wide = 0; high = 0 }
 
 pub loop-number-preserved : goal.loop-number-preserved
@@ -13,5 +13,5 @@ loop-number-preserved c =
 
 pub returns-then-not-is_apart_from : goal.returns-then-not-is_apart_from
 returns-then-not-is_apart_from c =
-    let behind = pairs_behind c.args.places.now c.loop-number.number none c.loop-number-test.true in
+    let behind = pairs_after c.args.places.now c.loop-number.number none c.loop-number-test.true in
     (λ e. absurd (false≢true e), λ pairs. sym c.if-not-is_apart_from.true ∙ c.is_apart_from.ensures.1 (behind pairs))

@@ -22,7 +22,7 @@ changed_wiring-requires-clause-now c = sound_of c.args.present.now.state.now.sta
 
 pub returns-in-Err-clause-judged : goal.returns-in-Err-clause-judged
 returns-in-Err-clause-judged c =
-    asked_so (need_idle_in c.args.present.now.state.now.state (has_open c.args.present.now.swaps.now c.args.exp) c.args.exp) _ (c.in_ok-lab.lab.now, c.in_ok-lab.experiment.now) (Err c.in-Err.refusal) c.in_ok-lab.ensures.place
+    asked_so (need_idle_in c.args.present.now.state.now.state (has_open c.args.present.now.swaps.now c.args.exp) c.args.exp) _ (c.in_ok-lab.lab.now, c.in_ok-lab.experiment.now) (Err c.in-Err.refusal) c.in_ok-lab.ensures.occupied
     (refuses_so (need_shape c.args.exp c.args.text.now c.args.event.now c.in_ok-lab.experiment.now.wiring) _ c.in-Err.refusal c.in-Err.ensures.refuses)
 
 pub judge_change-judged-requires-clause-shaped : goal.judge_change-judged-requires-clause-shaped
@@ -39,7 +39,7 @@ returns-clause-judged c =
     let e = c.in_ok-lab.experiment.now in
     let count = length c.args.present.now.swaps.now in
     let gives = c.in_slot.ensures.judged (judged_change s lab e c.in-Ok.wiring c.in_ok-same.same) c.judge_change-judged.ensures.judged in
-    asked_so (need_idle_in s (has_open c.args.present.now.swaps.now c.args.exp) c.args.exp) _ (lab, e) c.in_slot.result c.in_ok-lab.ensures.place
+    asked_so (need_idle_in s (has_open c.args.present.now.swaps.now c.args.exp) c.args.exp) _ (lab, e) c.in_slot.result c.in_ok-lab.ensures.occupied
     (asked_so (need_shape c.args.exp c.args.text.now c.args.event.now e.wiring) (λ shaped. JudgedChange c.args.exp c.args.text.now c.args.event.now s count lab e) tt c.in_slot.result c.in-Ok.ensures.shaped
     (change_judged c.args.exp c.args.text.now c.args.event.now s count lab e c.in-Ok.wiring c.in-Ok.ensures.applied c.in_ok-lab.mapping.now c.in_ok-lab.tags.now c.in_ok-lab.ensures.inside.inside c.in_slot.result
     (subst (λ (m : Mapping). Gives (in_slot count false (judged_change s lab e c.in-Ok.wiring m)) c.in_slot.result) c.in_ok-same.ensures gives)))

@@ -16,10 +16,10 @@ judge_script-requires-clause-now c = sound_of c.args.present.now.state.now.state
 
 pub returns-in-Ok-clause-judged : goal.returns-in-Ok-clause-judged
 returns-in-Ok-clause-judged c =
-    list_asked (need_idle_in c.args.present.now.state.now.state (has_open c.args.present.now.swaps.now c.args.exp) c.args.exp) _ (c.in_ok-_lab._lab.now, c.in_ok-_lab.experiment.now) c.judge_script.result c.in_ok-_lab.ensures.place
+    list_asked (need_idle_in c.args.present.now.state.now.state (has_open c.args.present.now.swaps.now c.args.exp) c.args.exp) _ (c.in_ok-_lab._lab.now, c.in_ok-_lab.experiment.now) c.judge_script.result c.in_ok-_lab.ensures.occupied
     (script_read c.args.exp c.args.text.now _ c.in-Ok.script c.judge_script.result c.in-Ok.ensures.script c.judge_script.ensures.judged)
 
 pub returns-in-Err-clause-judged : goal.returns-in-Err-clause-judged
 returns-in-Err-clause-judged c =
-    list_asked (need_idle_in c.args.present.now.state.now.state (has_open c.args.present.now.swaps.now c.args.exp) c.args.exp) _ (c.in_ok-_lab._lab.now, c.in_ok-_lab.experiment.now) (Err c.bad_text.result) c.in_ok-_lab.ensures.place
+    list_asked (need_idle_in c.args.present.now.state.now.state (has_open c.args.present.now.swaps.now c.args.exp) c.args.exp) _ (c.in_ok-_lab._lab.now, c.in_ok-_lab.experiment.now) (Err c.bad_text.result) c.in_ok-_lab.ensures.occupied
     (script_faulty c.args.exp c.args.text.now _ c.in-Err.refused c.bad_text.result c.in-Err.ensures.script c.bad_text.ensures)

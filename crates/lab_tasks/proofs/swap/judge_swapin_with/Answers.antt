@@ -17,10 +17,10 @@ judge_mapping-requires-clause-shaped c = c.in-Ok.ensures.shaped
 
 pub returns-in-Ok-clause-judged : goal.returns-in-Ok-clause-judged
 returns-in-Ok-clause-judged c =
-    given_by (need_idle_out c.args.present.now.state.now.state (has_open c.args.present.now.swaps.now c.args.exp) c.args.exp) _ (c.in_ok-lab.lab.now, c.in_ok-lab.experiment.now) c.judge_mapping.result c.in_ok-lab.ensures.place
+    given_by (need_idle_out c.args.present.now.state.now.state (has_open c.args.present.now.swaps.now c.args.exp) c.args.exp) _ (c.in_ok-lab.lab.now, c.in_ok-lab.experiment.now) c.judge_mapping.result c.in_ok-lab.ensures.occupied
     (meant_by (Bad c.args.exp) (mapping_of_text c.in_ok-lab.lab.now c.in_ok-lab.experiment.now.wiring c.args.text.now) _ c.in-Ok.mapping c.judge_mapping.result c.in-Ok.ensures.reads c.judge_mapping.ensures.judged)
 
 pub returns-in-Err-clause-judged : goal.returns-in-Err-clause-judged
 returns-in-Err-clause-judged c =
-    given_by (need_idle_out c.args.present.now.state.now.state (has_open c.args.present.now.swaps.now c.args.exp) c.args.exp) _ (c.in_ok-lab.lab.now, c.in_ok-lab.experiment.now) (Err c.bad_text.result) c.in_ok-lab.ensures.place
+    given_by (need_idle_out c.args.present.now.state.now.state (has_open c.args.present.now.swaps.now c.args.exp) c.args.exp) _ (c.in_ok-lab.lab.now, c.in_ok-lab.experiment.now) (Err c.bad_text.result) c.in_ok-lab.ensures.occupied
     (faulty_by (Bad c.args.exp) (mapping_of_text c.in_ok-lab.lab.now c.in_ok-lab.experiment.now.wiring c.args.text.now) _ c.in-Err.refused c.bad_text.result c.in-Err.ensures.reads c.bad_text.ensures)

@@ -8,7 +8,7 @@ use Rattle.lab_top.specs.declared.status.Status.TheVariants.{Done, ReadFault, Wr
 use Rattle.lab_top.specs.Pieces.{commands_of}
 use Rattle.lab_top.proofs.Commanding.{Covers, covers_none, covers_more, bad_begun, all_begun, cut_begun, wanting_begun, one_read, one_wanting, at_start}
 use Rattle.lab_top.proofs.Pieces.{begun_ran, commands-push, going_none, going_ends, going_more, going_cut, going_memory, going_bad}
-use Rattle.lab_top.proofs.Tellings.{took_more}
+use Rattle.lab_top.proofs.RepliesTaken.{took_more}
 use Rattle.lab_top.proofs.commands.obey_commands.Goals as goal
 
 pub commands-init : goal.commands-init
@@ -19,7 +19,7 @@ commands-init g c =
     record {
       ready = (n.fault, inl n.ended);
       near = rw n.pending (omega arith);
-      going = ([], rw c.requires.closed (going_none _ _ (g.T.Teller.written c.args.teller.now) refl), λ bytes is. covers_none bytes stand (ap (λ p. prepend_known p left) n.pending ∙ prepend_known-nil left ∙ is) n.ended n.taken n.lines, refl);
+      going = ([], rw c.requires.closed (going_none _ _ (g.T.ReplyTaker.written c.args.taker.now) refl), λ bytes is. covers_none bytes stand (ap (λ p. prepend_known p left) n.pending ∙ prepend_known-nil left ∙ is) n.ended n.taken n.lines, refl);
       read = omega arith;
       calm = refl;
       write = omega arith;
@@ -99,7 +99,7 @@ commands-preserved g c =
         was.0 ++ more.0 ∷ [],
         more.2,
         λ bytes is. subst (λ (cs : List Command). Covers (at_start bytes) new cs) (sym (commands-push was.0 more.0 ∙ ap (λ x. commands_of was.0 ++ x ∷ []) more.1)) (covers_more (at_start bytes) now new (commands_of was.0) command (was.2 bytes is) read),
-        took_more g.T.Teller.takes c.args.teller.now c.commands.teller c.answer_command.new.teller was.0 more.0 was.3 more.3,
+        took_more g.T.ReplyTaker.takes c.args.taker.now c.commands.taker c.answer_command.new.taker was.0 more.0 was.3 more.3,
       );
       read = omega (arith, e.later, inv.read);
       calm = e.calm (λ is. absurd (cc is)) ∙ inv.calm;
@@ -114,7 +114,7 @@ returns-in-Err-WriteFault-clause-ran g c =
     let a = rw c.in-Err-WriteFault.field-0-is at c.in-Err-WriteFault.ensures in
     let now = stand_of c.commands.run.lines (g.S.Source.left c.commands.source) in
     let new = stand_of c.read_command.new.lines (g.S.Source.left c.read_command.new.source) in
-    let cut = going_cut _ _ _ _ _ _ _ was.0 was.1 c.in-Ok-Command.command (λ reply. g.T.Teller.takes c.commands.teller reply c.answer_command.new.teller) (a.answered _ was.1.goes_on) in
+    let cut = going_cut _ _ _ _ _ _ _ was.0 was.1 c.in-Ok-Command.command (λ reply. g.T.ReplyTaker.takes c.commands.taker reply c.answer_command.new.taker) (a.answered _ was.1.goes_on) in
     (cut.0, begun_ran _ _ _ _ _ _ _ WriteFault cut.0 cut.2 (λ bytes is. one_read bytes now new (commands_of was.0) (commands_of cut.0) c.in-Ok-Command.command (was.2 bytes is) (e.next inv.ready) (pending_of c.read_command.new.lines) (g.S.Source.left c.read_command.new.source) refl (omega (arith, e.ahead, inv.near)) cut.1) (λ is. absurd (cc is)), λ is. absurd (cc is))
 
 pub returns-in-Err-Memory-answer_command-clause-ran : goal.returns-in-Err-Memory-answer_command-clause-ran
@@ -125,7 +125,7 @@ returns-in-Err-Memory-answer_command-clause-ran g c =
     let a = rw c.in-Err-Memory-answer_command.field-0-is at c.in-Err-Memory-answer_command.ensures in
     let now = stand_of c.commands.run.lines (g.S.Source.left c.commands.source) in
     let new = stand_of c.read_command.new.lines (g.S.Source.left c.read_command.new.source) in
-    let cut = going_memory _ _ _ _ _ _ _ was.0 was.1 c.in-Ok-Command.command (λ reply. g.T.Teller.takes c.commands.teller reply c.answer_command.new.teller) (a.answered _ was.1.goes_on) in (
+    let cut = going_memory _ _ _ _ _ _ _ was.0 was.1 c.in-Ok-Command.command (λ reply. g.T.ReplyTaker.takes c.commands.taker reply c.answer_command.new.taker) (a.answered _ was.1.goes_on) in (
       cut.0,
       begun_ran _ _ _ _ _ _ _ Memory cut.0 cut.2
           (λ bytes is. one_wanting bytes now new (commands_of was.0) (commands_of cut.0) c.in-Ok-Command.command (was.2 bytes is) (e.next inv.ready) (pending_of c.read_command.new.lines) (g.S.Source.left c.read_command.new.source) refl (omega (arith, e.ahead, inv.near)) cut.1) (λ is. absurd (cc is)),
@@ -142,5 +142,5 @@ returns-in-Err-JournalBad-clause-ran g c =
     let new = stand_of c.read_command.new.lines (g.S.Source.left c.read_command.new.source) in
     let side = c.in-Err-JournalBad.side in
     let at = c.in-Err-JournalBad.at in
-    let cut = going_bad _ _ _ _ _ _ _ was.0 was.1 c.in-Ok-Command.command (λ reply. g.T.Teller.takes c.commands.teller reply c.answer_command.new.teller) side at (a.answered _ was.1.goes_on) in
+    let cut = going_bad _ _ _ _ _ _ _ was.0 was.1 c.in-Ok-Command.command (λ reply. g.T.ReplyTaker.takes c.commands.taker reply c.answer_command.new.taker) side at (a.answered _ was.1.goes_on) in
     rw c.in-Err-JournalBad.field-0-is (cut.0, begun_ran _ _ _ _ _ _ _ (JournalBad side at) cut.0 cut.2 (λ bytes is. one_read bytes now new (commands_of was.0) (commands_of cut.0) c.in-Ok-Command.command (was.2 bytes is) (e.next inv.ready) (pending_of c.read_command.new.lines) (g.S.Source.left c.read_command.new.source) refl (omega (arith, e.ahead, inv.near)) cut.1) (λ is. absurd (cc is)), λ is. absurd (cc is))

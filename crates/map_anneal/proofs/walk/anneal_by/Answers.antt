@@ -23,4 +23,4 @@ returns-clause-least g c =
     }) in
     let done = subst Whole (c.in_ok-last.ensures.tried.cost ∙ ap (price s) c.in_ok-last.ensures.start) kept.best in
     let Told : Priced → Type 0 = λ p. IsFirstLeast (price s) (cooled s (price s start) (price s start) (started start c.args.seed)).maps p.mapping in
-    subst Told (sym c.told-lowest.ensures) done
+    subst Told (sym c.priced_by_steps-lowest.ensures) done

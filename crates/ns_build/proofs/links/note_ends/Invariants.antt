@@ -7,6 +7,6 @@ use Rattle.ns_build.proofs.links.note_ends.Given as goal
 
 abbrev pub invariant-loop-end : goal.invariant-loop-end
 invariant-loop-end l = record {
-  places : (v : ℕ) → get nat_eq l.places v ≡ cond (has_end v (take l.end-index l.ends)) (Some (noted l.place (get nat_eq l.initial.places v))) (get nat_eq l.initial.places v);
+  places : (v : ℕ) → get nat_eq l.places v ≡ cond (has_end v (take l.end-index l.ends)) (Some (noted l.index (get nat_eq l.initial.places v))) (get nat_eq l.initial.places v);
   room : length l.ends ≤ spare l.places + l.end-index;
 }

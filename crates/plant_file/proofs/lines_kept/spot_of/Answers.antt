@@ -1,5 +1,5 @@
 use Rattle.std.proofs.Common.{◌≡◌, ◌+◌, length, take, drop, length-take-le, sym, ap, ◌∙◌, arith}
-use Rattle.plant_file.proofs.KeptLaws.{rest_behind, size_more, none_more, line_at, each_at}
+use Rattle.plant_file.proofs.KeptLaws.{rest_after, size_more, none_more, line_at, each_at}
 use Rattle.plant_file.proofs.lines_kept.spot_of.Goals as goal
 
 pub has_key-requires : goal.has_key-requires
@@ -23,12 +23,12 @@ returns-then-has_key c = record {
 pub behind-rest-requires : goal.behind-rest-requires
 behind-rest-requires c =
     let own = each_at c.args.lines.now c.args.text.now c.requires c.loop-here.here-index c.here-item.result c.loop-here-test.true c.here-item.is in
-    (rest_behind c.args.lines.now c.loop-here.here-index c.here-item.result c.loop-here.rest.now c.loop-here-test.true c.here-item.is own c.loop-here.invariant.rest).0
+    (rest_after c.args.lines.now c.loop-here.here-index c.here-item.result c.loop-here.rest.now c.loop-here-test.true c.here-item.is own c.loop-here.invariant.rest).0
 
 pub loop-here-preserved : goal.loop-here-preserved
 loop-here-preserved c =
     let own = each_at c.args.lines.now c.args.text.now c.requires c.loop-here.here-index c.here-item.result c.loop-here-test.true c.here-item.is in
-    let cut = rest_behind c.args.lines.now c.loop-here.here-index c.here-item.result c.loop-here.rest.now c.loop-here-test.true c.here-item.is own c.loop-here.invariant.rest in
+    let cut = rest_after c.args.lines.now c.loop-here.here-index c.here-item.result c.loop-here.rest.now c.loop-here-test.true c.here-item.is own c.loop-here.invariant.rest in
     let long : length c.behind-rest.result.now ≡ length (drop c.here-item.result.size c.loop-here.rest.now) = ap length c.behind-rest.ensures in
     let more = size_more c.args.lines.now c.loop-here.here-index c.here-item.result c.loop-here-test.true c.here-item.is own in
     record {

@@ -1,6 +1,6 @@
 use Rattle.std.proofs.Common.{◌≡◌, ◌++◌, [], drop}
-use Rattle.tcl_eval.specs.Forms.{behind_each}
+use Rattle.tcl_eval.specs.Forms.{after_each}
 use Rattle.tcl_eval.proofs.lists.appended.Given as goal
 
 abbrev pub invariant-loop-word : goal.invariant-loop-word
-invariant-loop-word l = l.value ++ behind_each [] (drop l.word-index l.words) ≡ l.fn.value ++ behind_each [] l.words
+invariant-loop-word l = l.value ++ after_each [] (drop l.word-index l.words) ≡ l.fn.value ++ after_each [] l.words

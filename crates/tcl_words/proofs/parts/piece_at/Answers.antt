@@ -1,7 +1,7 @@
 use Rattle.std.proofs.Common.{◌≡◌, ℕ, ◌+◌, ◌-◌, arith, sym, subst, Result, Err}
 use Rattle.std.proofs.lemmas.Result.{err_from_is_err_and}
 use Rattle.tcl_words.specs.declared.frame.Frame.TheVariants as frames
-use Rattle.tcl_words.specs.declared.frame.Place.TheVariants as places
+use Rattle.tcl_words.specs.declared.frame.BracketState.TheVariants as places
 use Rattle.tcl_words.specs.declared.flaw.Flaw.{Flaw}
 use Rattle.tcl_words.specs.Passes.{Passes}
 use Rattle.tcl_words.specs.Words.{itself, wrong, escape, variable, braced, indexed, indexed_fails, script, script_fails}

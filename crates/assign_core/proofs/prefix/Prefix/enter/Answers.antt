@@ -6,7 +6,7 @@ use Rattle.cost_rule.specs.declared.parts.Parts.{Parts}
 use Rattle.cost_rule.specs.Parts.{cost_of_parts, AreParts}
 use Rattle.node_maps.specs.declared.rooms.Room.{Room}
 use Rattle.node_maps.proofs.MapLaws.{candidates_count, mapped_is}
-use Rattle.map_state.specs.Hosted.{guests_at}
+use Rattle.map_state.specs.Hosted.{hosted_at}
 use Rattle.map_anneal.specs.Sought.{price}
 use Rattle.map_anneal.specs.Searches.{sought_of}
 use Rattle.assign_core.specs.Prefixes.{first_parts}
@@ -23,7 +23,7 @@ index-requires g c =
     let room = room_is search v c.args.number c.len-next.result c.at-room.result c.requires.search c.requires.more c.requires.number next c.at-room.ensures in
     let node = subst (λ (r : Room). r.node.0 < length search.mapper.lab.now.nodes) (sym room) (candidate_on search v c.args.number c.requires.search c.requires.more c.requires.number).0 in
     let each = c.requires.prefix.one_each in
-    let len = c.args.self.now.guests.ok.0 in
+    let len = c.args.self.now.hosted.ok.0 in
     omega (arith, node, each, len)
 
 pub returns-then-index-room-clause-passed : goal.returns-then-index-room-clause-passed
@@ -31,7 +31,7 @@ returns-then-index-room-clause-passed g c = λ none.
     let search = c.args.search.now in
     let s = sought_of search c.args.rule.now.number in
     let places = c.args.self.now.places.items in
-    let items = c.args.self.now.guests.items in
+    let items = c.args.self.now.hosted.items in
     let v = length places in
     let p = candidate_at search v c.args.number in
     let was = c.requires.prefix in
@@ -41,7 +41,7 @@ returns-then-index-room-clause-passed g c = λ none.
     let on = candidate_on search v c.args.number c.requires.search c.requires.more c.requires.number in
     let node : p.0.0 < length search.mapper.lab.now.nodes = on.0 in
     let read = c.index.ensures ∙ ap (λ (r : Room). get_or items r.node.0 c.index.result.now) room in
-    let count : c.index.result.now ≡ guests_at places p.0.0 = get_or_read items p.0.0 c.index.result.now (omega (arith, node, each)) read 0 ∙ was.guests p.0.0 node in
+    let count : c.index.result.now ≡ hosted_at places p.0.0 = get_or_read items p.0.0 c.index.result.now (omega (arith, node, each)) read 0 ∙ was.hosted p.0.0 node in
     let most : ◌≡◌ {A = ℕ} c.at-room.result.most (number_of (node_at search.mapper.lab.now p.0).types p.1) = ap (λ (r : Room). r.most) room in
     full_passed s places p c.args.best.now node (omega (arith, count, most, c.if-index-room.true))
 

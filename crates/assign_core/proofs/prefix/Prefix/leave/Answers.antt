@@ -6,8 +6,8 @@ use Rattle.std.proofs.lemmas.List.{length-set, get_or_read}
 use Rattle.std.proofs.lemmas.List.Elements.{All-pop}
 use Rattle.lab_model.specs.Shapes.{Place, node_at, has_name}
 use Rattle.lab_model.specs.Rules.{no_place}
-use Rattle.map_state.specs.Hosted.{guests_at}
-use Rattle.map_state.proofs.GuestLaws.{one_if, guests_more}
+use Rattle.map_state.specs.Hosted.{hosted_at}
+use Rattle.map_state.proofs.HostedNodeLaws.{one_if, guests_more}
 use Rattle.assign_core.specs.Prefixes.{first_parts}
 use Rattle.assign_core.proofs.prefix.Prefix.leave.Goals as goal
 
@@ -26,7 +26,7 @@ index_mut-requires c =
     let x = c.args._search.now.mapper in
     let was = c.requires.prefix in
     let each = was.one_each in
-    let len = c.args.self.now.guests.ok.0 in
+    let len = c.args.self.now.hosted.ok.0 in
     let popped = All-pop (λ (q : Place). q.0.0 < length x.lab.now.nodes) c.args.self.now.places.items c.pop.new.self.items c.pop.result c.pop.ensures.items was.are.in_nodes in
     let node = subst (λ (o : Option Place). IfSome o (λ q. q.0.0 < length x.lab.now.nodes)) c.in-Some.is popped.1 in
     omega (arith, node, each, len)
@@ -35,15 +35,15 @@ pub overflow_sub-index_mut : goal.overflow_sub-index_mut
 overflow_sub-index_mut c =
     let x = c.args._search.now.mapper in
     let was = c.requires.prefix in
-    let items = c.args.self.now.guests.items in
+    let items = c.args.self.now.hosted.items in
     let each = was.one_each in
     let p : Place = c.in-Some.last in
     let popped = All-pop (λ (q : Place). q.0.0 < length x.lab.now.nodes) c.args.self.now.places.items c.pop.new.self.items c.pop.result c.pop.ensures.items was.are.in_nodes in
     let node : p.0.0 < length x.lab.now.nodes = subst (λ (o : Option Place). IfSome o (λ q. q.0.0 < length x.lab.now.nodes)) c.in-Some.is popped.1 in
     let at : ◌≡◌ {A = ℕ} c.index_mut.result.now (get_or items p.0.0 0) = get_or_read items p.0.0 c.index_mut.result.now (omega (arith, node, each)) c.index_mut.ensures.value 0 in
-    let before = was.guests p.0.0 node in
+    let before = was.hosted p.0.0 node in
     let all : c.args.self.now.places.items ≡ c.pop.new.self.items ++ p ∷ [] = c.pop.ensures.items ∙ ap (λ (o : Option Place). c.pop.new.self.items ++ option_to_list o) c.in-Some.is in
-    let same = ap (λ (ps : List Place). guests_at ps p.0.0) all in
+    let same = ap (λ (ps : List Place). hosted_at ps p.0.0) all in
     let more = guests_more c.pop.new.self.items p p.0.0 in
     let one : ◌≡◌ {A = ℕ} (one_if (eqb p.0.0 p.0.0)) 1 = ap one_if (eq-eqb p.0.0 p.0.0 refl) in
     omega (arith, at, before, same, more, one)
@@ -57,7 +57,7 @@ pub returns-clause-prefix : goal.returns-clause-prefix
 returns-clause-prefix c =
     let x = c.args._search.now.mapper in
     let was = c.requires.prefix in
-    let items = c.args.self.now.guests.items in
+    let items = c.args.self.now.hosted.items in
     let rest = c.pop.new.self.items in
     let each = was.one_each in
     let p : Place = c.in-Some.last in
@@ -75,10 +75,10 @@ returns-clause-prefix c =
       within = (let within = was.within in omega (arith, within, shorter, whole));
       are = record { in_nodes = popped.0; of_node = typed.0 };
       one_each = length-set items p.0.0 (c.index_mut.result.now - 1) ∙ each;
-      guests = λ n lt.
-          let before = was.guests n lt in
+      hosted = λ n lt.
+          let before = was.hosted n lt in
           let more = guests_more rest p n in
-          let same = ap (λ (ps : List Place). guests_at ps n) all in
+          let same = ap (λ (ps : List Place). hosted_at ps n) all in
           elim (cases_eq n p.0.0) [
             | inl is ↦ (
                 let set_here : ◌≡◌ {A = ℕ} (get_or (set items p.0.0 (c.index_mut.result.now - 1)) n 0) (c.index_mut.result.now - 1) = ap (λ (j : ℕ). get_or (set items p.0.0 (c.index_mut.result.now - 1)) j 0) is ∙ get_or-set_same items p.0.0 (c.index_mut.result.now - 1) 0 here in

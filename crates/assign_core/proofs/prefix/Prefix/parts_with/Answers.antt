@@ -3,8 +3,8 @@ use Rattle.std.proofs.lemmas.List.{get_or_read}
 use Rattle.lab_model.specs.Shapes.{Place}
 use Rattle.cost_rule.specs.declared.parts.Parts.{Parts}
 use Rattle.cost_rule.specs.Cost.{different, same_node, soft_at}
-use Rattle.map_state.specs.Hosted.{guests_at}
-use Rattle.map_state.proofs.GuestLaws.{one_if}
+use Rattle.map_state.specs.Hosted.{hosted_at}
+use Rattle.map_state.proofs.HostedNodeLaws.{one_if}
 use Rattle.assign_core.specs.Prefixes.{first_soft}
 use Rattle.assign_core.proofs.FirstParts.{first_small, used_more, soft_more}
 use Rattle.assign_core.proofs.prefix.Prefix.parts_with.Goals as goal
@@ -20,7 +20,7 @@ pub index-requires : goal.index-requires
 index-requires c =
     let node = c.requires.node in
     let each = c.requires.prefix.one_each in
-    let len = c.args.self.now.guests.ok.0 in
+    let len = c.args.self.now.hosted.ok.0 in
     omega (arith, node, each, len)
 
 pub overflow_add-result : goal.overflow_add-result
@@ -44,14 +44,14 @@ pub returns : goal.returns
 returns c =
     let x = c.args.search.now.mapper in
     let places = c.args.self.now.places.items in
-    let items = c.args.self.now.guests.items in
+    let items = c.args.self.now.hosted.items in
     let p : Place = c.args.place.now in
     let was = c.requires.prefix in
     let node = c.requires.node in
     let each = was.one_each in
     let next : c.len-next.result ≡ length places = omega (arith, c.len-next.ensures, c.args.self.now.places.ok.0) in
-    let count : c.index.result.now ≡ guests_at places p.0.0 = get_or_read items p.0.0 c.index.result.now (omega (arith, node, each)) c.index.ensures 0 ∙ was.guests p.0.0 node in
-    let flag : ◌≡◌ {A = ℕ} c.one_if-joined.result (one_if (eqb (guests_at places p.0.0) 0)) = c.one_if-joined.ensures ∙ ap (λ (k : ℕ). one_if (eqb k 0)) count in
+    let count : c.index.result.now ≡ hosted_at places p.0.0 = get_or_read items p.0.0 c.index.result.now (omega (arith, node, each)) c.index.ensures 0 ∙ was.hosted p.0.0 node in
+    let flag : ◌≡◌ {A = ℕ} c.one_if-joined.result (one_if (eqb (hosted_at places p.0.0) 0)) = c.one_if-joined.ensures ∙ ap (λ (k : ℕ). one_if (eqb k 0)) count in
     let used = used_more places p in
     let had = ap (λ (q : Parts). q.nodes) was.parts in
     let nodes : c.args.self.now.parts.nodes + c.one_if-joined.result ≡ different same_node (map (λ (q : Place). q.0.0) (places ++ p ∷ [])) = omega (arith, used, had, flag) in

@@ -5,8 +5,8 @@ use Rattle.std.proofs.lemmas.List.{length-set, get_or_read}
 use Rattle.virt_topo.proofs.CableLaws.{sound_limits}
 use Rattle.lab_model.specs.Shapes.{Place}
 use Rattle.node_maps.specs.NodeMaps.{ArePlaces}
-use Rattle.map_state.specs.Hosted.{guests_at}
-use Rattle.map_state.proofs.GuestLaws.{one_if, guests_more, guests_few}
+use Rattle.map_state.specs.Hosted.{hosted_at}
+use Rattle.map_state.proofs.HostedNodeLaws.{one_if, guests_more, few_hosted}
 use Rattle.assign_core.specs.Prefixes.{first_parts}
 use Rattle.assign_core.proofs.FirstParts.{placed_more}
 use Rattle.assign_core.proofs.prefix.Prefix.put.Goals as goal
@@ -17,19 +17,19 @@ overflow_add-index_mut c =
     let was = c.requires.prefix in
     let node = c.requires.node in
     let each = was.one_each in
-    let at : ◌≡◌ {A = ℕ} c.index_mut.result.now (get_or c.args.self.now.guests.items p.0.0 0) = get_or_read c.args.self.now.guests.items p.0.0 c.index_mut.result.now (omega (arith, node, each)) c.index_mut.ensures.value 0 in
-    let guests = was.guests p.0.0 node in
-    let few = guests_few c.args.self.now.places.items p.0.0 in
+    let at : ◌≡◌ {A = ℕ} c.index_mut.result.now (get_or c.args.self.now.hosted.items p.0.0 0) = get_or_read c.args.self.now.hosted.items p.0.0 c.index_mut.result.now (omega (arith, node, each)) c.index_mut.ensures.value 0 in
+    let hosted = was.hosted p.0.0 node in
+    let few = few_hosted c.args.self.now.places.items p.0.0 in
     let more = c.requires.more in
     let all = (sound_limits c.args._search.now.mapper.wiring.now c.requires.search.mapper.sound).nodes in
-    omega (arith, at, guests, few, more, all)
+    omega (arith, at, hosted, few, more, all)
 
 pub returns-clause-prefix : goal.returns-clause-prefix
 returns-clause-prefix c =
     let x = c.args._search.now.mapper in
     let lab = x.lab.now in
     let places = c.args.self.now.places.items in
-    let items = c.args.self.now.guests.items in
+    let items = c.args.self.now.hosted.items in
     let p = c.args.place in
     let was = c.requires.prefix in
     let node = c.requires.node in
@@ -41,10 +41,10 @@ returns-clause-prefix c =
       within = (let long = ap length grown in let one = length-append places (p ∷ []) in let more = c.requires.more in omega (arith, long, one, more));
       are = subst (λ (ps : List Place). ArePlaces lab ps) (sym grown) (placed_more lab places p was.are node c.requires.typed);
       one_each = length-set items p.0.0 (c.index_mut.result.now + 1) ∙ each;
-      guests = λ n lt.
-          let before = was.guests n lt in
+      hosted = λ n lt.
+          let before = was.hosted n lt in
           let more = guests_more places p n in
-          let new = ap (λ (ps : List Place). guests_at ps n) grown in
+          let new = ap (λ (ps : List Place). hosted_at ps n) grown in
           elim (cases_eq n p.0.0) [
             | inl same ↦ (
                 let set_here : ◌≡◌ {A = ℕ} (get_or (set items p.0.0 (c.index_mut.result.now + 1)) n 0) (c.index_mut.result.now + 1) = ap (λ (j : ℕ). get_or (set items p.0.0 (c.index_mut.result.now + 1)) j 0) same ∙ get_or-set_same items p.0.0 (c.index_mut.result.now + 1) 0 here in

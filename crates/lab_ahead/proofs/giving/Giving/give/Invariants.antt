@@ -1,5 +1,5 @@
 use Rattle.std.proofs.Common.{◌≡◌, ◌≤◌, ◌+◌, ℕ}
-use Rattle.lab_ahead.specs.Trails.{IsWhole, KeepsNodes, held, owners_in}
+use Rattle.lab_ahead.specs.SearchTrees.{IsWhole, KeepsNodes, held, owners_in}
 use Rattle.lab_ahead.proofs.giving.Giving.give.Given as goal
 
 abbrev pub invariant-loop-place : goal.invariant-loop-place

@@ -1,6 +1,6 @@
 use Rattle.std.proofs.Common.{Bool, List, length, ap, subst, arith}
-use Rattle.lab_ahead.specs.declared.trail.Search.{Search}
-use Rattle.lab_ahead.specs.Trails.{IsSearched, owners_in, table_in}
+use Rattle.lab_ahead.specs.declared.tree.Search.{Search}
+use Rattle.lab_ahead.specs.SearchTrees.{IsSearched, owners_in, table_in}
 use Rattle.lab_ahead.proofs.Exchanges.{nodes_still, none_there, one_here, table_still}
 use Rattle.lab_ahead.proofs.giving.Giving.serve.Goals as goal
 

@@ -1,5 +1,5 @@
 use Rattle.std.proofs.Common.{◌≡◌, ◌+◌, ℕ}
-use Rattle.lab_ahead.specs.Trails.{IsWhole, KeepsNodes, held, owners_in}
+use Rattle.lab_ahead.specs.SearchTrees.{IsWhole, KeepsNodes, held, owners_in}
 use Rattle.lab_ahead.proofs.giving.Giving.serve.Given as goal
 
 abbrev pub invariant-loop-given : goal.invariant-loop-given

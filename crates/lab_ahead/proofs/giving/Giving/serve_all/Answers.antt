@@ -1,8 +1,8 @@
 use Rattle.std.proofs.Common.{◌≡◌, ◌<◌, ◌+◌, [], Bool, List, Option, MatchOption, length, refl, ap, subst, arith}
 use Rattle.std.proofs.lemmas.List.{get_or_read}
 use Rattle.lab_ahead.specs.declared.fitting.Need.{Need}
-use Rattle.lab_ahead.specs.declared.trail.Trail.{Trail}
-use Rattle.lab_ahead.specs.Trails.{IsStuck, held, owners_in, table_in}
+use Rattle.lab_ahead.specs.declared.tree.SearchTree.{SearchTree}
+use Rattle.lab_ahead.specs.SearchTrees.{IsStuck, held, owners_in, table_in}
 use Rattle.lab_ahead.proofs.Exchanges.{nodes_still, table_still}
 use Rattle.lab_ahead.proofs.Shown.{none_met, one_more_met, wanting}
 use Rattle.lab_ahead.proofs.giving.Giving.serve_all.Goals as goal
@@ -23,10 +23,10 @@ loop-n-preserved c =
     let new = owners_in c.serve.new.self in
     let table = table_in c.serve.new.self in
     let count = c.index-needs-n.result.count in
-    let now = c.in_ok-trail.ensures in
+    let now = c.in_ok-tree.ensures in
     let read = ap (λ (need : Need). need.count) (get_or_read needs n c.index-needs-n.result c.loop-n-test.true c.index-needs-n.is (record { kind = []; count = 0 })) in
     let all : held new n ≡ held old n + count =
-    subst (λ (o : Option Trail). MatchOption o (held new n ≡ held old n + count) (λ trail. IsStuck table new n trail × (held new n < held old n + count))) c.in_default.is now.answer in
+    subst (λ (o : Option SearchTree). MatchOption o (held new n ≡ held old n + count) (λ tree. IsStuck table new n tree × (held new n < held old n + count))) c.in_default.is now.answer in
     record {
       whole = now.whole;
       nodes = nodes_still c.args.self.now c.loop-n.self c.serve.new.self c.loop-n.invariant.nodes now.nodes;
@@ -41,8 +41,8 @@ returns-in-Some-clause-answer c =
     let new = owners_in c.serve.new.self in
     let table = table_in c.serve.new.self in
     let count = c.index-needs-n.result.count in
-    let now = c.in_ok-trail.ensures in
+    let now = c.in_ok-tree.ensures in
     let read = ap (λ (need : Need). need.count) (get_or_read needs n c.index-needs-n.result c.loop-n-test.true c.index-needs-n.is (record { kind = []; count = 0 })) in
-    let stuck : IsStuck table new n c.in-Some.trail × (held new n < held old n + count) =
-    subst (λ (o : Option Trail). MatchOption o (held new n ≡ held old n + count) (λ trail. IsStuck table new n trail × (held new n < held old n + count))) c.in-Some.is now.answer in
-    wanting needs n old new c.loop-n.invariant.met now.others table c.in-Some.trail stuck.0 (omega (arith, stuck.1, read))
+    let stuck : IsStuck table new n c.in-Some.tree × (held new n < held old n + count) =
+    subst (λ (o : Option SearchTree). MatchOption o (held new n ≡ held old n + count) (λ tree. IsStuck table new n tree × (held new n < held old n + count))) c.in-Some.is now.answer in
+    wanting needs n old new c.loop-n.invariant.met now.others table c.in-Some.tree stuck.0 (omega (arith, stuck.1, read))

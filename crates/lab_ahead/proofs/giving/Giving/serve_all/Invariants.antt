@@ -1,4 +1,4 @@
-use Rattle.lab_ahead.specs.Trails.{AreMet, IsWhole, KeepsNodes, owners_in}
+use Rattle.lab_ahead.specs.SearchTrees.{AreMet, IsWhole, KeepsNodes, owners_in}
 use Rattle.lab_ahead.proofs.giving.Giving.serve_all.Given as goal
 
 abbrev pub invariant-loop-n : goal.invariant-loop-n

@@ -1,7 +1,7 @@
 use Rattle.std.proofs.Common.{◌≡◌, take}
 use Rattle.phys_lab.specs.Tables.{rows}
 use Rattle.lab_ahead.specs.Moments.{needs_at}
-use Rattle.lab_ahead.specs.Trails.{table_of}
+use Rattle.lab_ahead.specs.SearchTrees.{table_of}
 use Rattle.lab_ahead.proofs.served.Served.rows_at.Given as goal
 
 abbrev pub invariant-loop-number : goal.invariant-loop-number

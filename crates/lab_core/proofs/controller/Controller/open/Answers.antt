@@ -1,7 +1,7 @@
 use Rattle.std.proofs.Common.{◌≡◌, ◌∙◌, Err, refl, subst}
 use Rattle.std.proofs.lemmas.Result.{err_from_is_err_and}
 use Rattle.lab_base.proofs.Tests.{no_error}
-use Rattle.lab_core.proofs.Openings.{bad_behind}
+use Rattle.lab_core.proofs.Openings.{bad_after}
 use Rattle.lab_core.proofs.OpenSwaps.{opened_alone}
 use Rattle.lab_core.proofs.SettledOpenings.{not_read, then_broken, then_moved}
 use Rattle.lab_core.proofs.controller.Controller.open.Goals as goal
@@ -14,7 +14,7 @@ returns-in_err-controller-clause-steps g c =
 pub returns-in_err-controller-clause-bad : goal.returns-in_err-controller-clause-bad
 returns-in_err-controller-clause-bad g c =
     let p = err_from_is_err_and c.from_residual.result c.from_residual.ensures.1 in
-    rw (p.1, p.2) (λ side at is. bad_behind c.args.limit _ _ (Err c.in_err-controller.field-0.0) side at c.in_err-controller.ensures.steps (subst (λ e. Err c.in_err-controller.field-0.0 ≡ e) is refl))
+    rw (p.1, p.2) (λ side at is. bad_after c.args.limit _ _ (Err c.in_err-controller.field-0.0) side at c.in_err-controller.ensures.steps (subst (λ e. Err c.in_err-controller.field-0.0 ≡ e) is refl))
 
 pub settle_all-requires-clause-runs : goal.settle_all-requires-clause-runs
 settle_all-requires-clause-runs g c = no_error c.in_ok-controller.controller _ (g.P.Plant.seen c.read.new.plant).stopped c.in_ok-controller.ensures.stopped

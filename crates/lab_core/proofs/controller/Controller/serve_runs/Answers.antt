@@ -12,7 +12,7 @@ use Rattle.lab_core.specs.Controller.{WorksWith}
 use Rattle.lab_core.specs.Queues.{ObeysRuns, ends_if, first_place}
 use Rattle.lab_core.specs.Sessions.{OpenSwap}
 use Rattle.lab_tasks.proofs.Drops.{drop_all}
-use Rattle.lab_core.proofs.RunsInTurn.{all_done, ends_there, fails_there, goes_further, place_at, starts, wants_behind, works_further}
+use Rattle.lab_core.proofs.RunsInTurn.{all_done, ends_there, fails_there, goes_further, place_at, starts, wants_after, works_further}
 use Rattle.lab_core.proofs.HowFar.{ComesToRun}
 use Rattle.lab_core.proofs.controller.Controller.serve_runs.Goals as goal
 
@@ -93,7 +93,7 @@ returns-in_err-note_end g c =
     let p = err_from_is_err_and c.from_residual-in_err-note_end.result c.from_residual-in_err-note_end.ensures.1 in
     rw (p.1, p.2)
     (subst (λ (m : ℕ). (opens : List OpenSwap) (devices : ℕ) → devices ≤ before.faults.devices → WorksWith before c.args.self.now opens → ObeysRuns c.args.rule.now.number m start devices before (g.P.Plant.seen c.serve_next.new.plant) c.args.self.now c.serve_next.new.self opens (Err faults.Memory)) c.loop-run.invariant.moment
-    (wants_behind c.args.rule.now.number start before mid (g.P.Plant.seen c.serve_next.new.plant) c.args.self.now c.loop-run.self c.serve_next.new.self queue x (drop (i + 1) runs) told comes c.loop-run.told c.loop-run.invariant.comes.1 c.loop-run.invariant.open' c.in_ok-next.next c.in_ok-next.inside c.in_ok-next.ensures c.if-told.false))
+    (wants_after c.args.rule.now.number start before mid (g.P.Plant.seen c.serve_next.new.plant) c.args.self.now c.loop-run.self c.serve_next.new.self queue x (drop (i + 1) runs) told comes c.loop-run.told c.loop-run.invariant.comes.1 c.loop-run.invariant.open' c.in_ok-next.next c.in_ok-next.inside c.in_ok-next.ensures c.if-told.false))
 
 pub loop-run-preserved : goal.loop-run-preserved
 loop-run-preserved g c =

@@ -5,8 +5,8 @@ use Rattle.lab_state.proofs.state.LabState.add.Goals as goal
 
 pub invariant_of-self : goal.invariant_of-self
 invariant_of-self c =
-    let place = c.self.inside.place in
+    let claimed_lab = c.self.inside.claimed_lab in
     let es = c.self.inside.experiments.list in
     let new = rw (← c.self.view_is) at c.requires.new in
     let sane = rw (← c.self.view_is) at c.requires.sane in
-    subst (IsKept place) (sym c.add.ensures) (add_kept place es c.args.experiment c.self.invariant new c.requires.out c.requires.printable sane)
+    subst (IsKept claimed_lab) (sym c.add.ensures) (add_kept claimed_lab es c.args.experiment c.self.invariant new c.requires.out c.requires.printable sane)

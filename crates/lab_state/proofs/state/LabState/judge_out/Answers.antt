@@ -11,12 +11,12 @@ pub begin-requires-clause-old : goal.begin-requires-clause-old
 begin-requires-clause-old c =
     let es = c.self.inside.experiments.list in
     let kept = subst (λ p. IsKept p es) c.in-Some.is c.self.invariant in
-    standing_suits c.in-Some.place es c.args.exp c.in-Some-named.experiment.now kept (sym c.in-Some-named.ensures)
+    standing_suits c.in-Some.claimed_lab es c.args.exp c.in-Some-named.experiment.now kept (sym c.in-Some-named.ensures)
 
 pub returns : goal.returns
 returns c =
     let es = c.self.inside.experiments.list in
     let kept = subst (λ p. IsKept p es) c.in-Some.is c.self.invariant in
     let inside = c.if-not-is_in.ensures in
-    let judged = judged_out c.in-Some.place es c.args.exp c.in-Some-named.experiment.now kept (sym c.in-Some-named.ensures) c.in_ok-change.change (sym inside) c.in_ok-change.ensures in
+    let judged = judged_out c.in-Some.claimed_lab es c.args.exp c.in-Some-named.experiment.now kept (sym c.in-Some-named.ensures) c.in_ok-change.change (sym inside) c.in_ok-change.ensures in
     rw (← c.self.view_is) (subst (λ p. CanFollow (state_of p es) (Begin c.args.exp Out) c.in_ok-change.change) (sym c.in-Some.is) judged)

@@ -7,8 +7,8 @@ use Rattle.lab_state.specs.Kept.{IsKept}
 use Rattle.lab_state.specs.Seen.{Seen}
 use Rattle.lab_state.proofs.state.LabState.lab.Goals as goal
 
-printable : (place : Option ClaimedLab) (es now : List Experiment) → IsKept place es → es ≡ now → (e : Experiment) → Has now e → is_printable e.wiring ≡ true
-printable place es now kept same e h = (kept.printable e (subst (λ (l : List Experiment). Has l e) (sym same) h)).wiring
+printable : (claimed_lab : Option ClaimedLab) (es now : List Experiment) → IsKept claimed_lab es → es ≡ now → (e : Experiment) → Has now e → is_printable e.wiring ≡ true
+printable claimed_lab es now kept same e h = (kept.printable e (subst (λ (l : List Experiment). Has l e) (sym same) h)).wiring
 
 pub returns-in-Some-clause-printable : goal.returns-in-Some-clause-printable
 returns-in-Some-clause-printable c = printable _ _ _ c.self.invariant (ap (λ (s : Seen). s.state.experiments) c.self.view_is)

@@ -19,7 +19,7 @@ push_all-requires c =
 pub returns-in_ok-push_all-in-Some-clause-packed : goal.returns-in_ok-push_all-in-Some-clause-packed
 returns-in_ok-push_all-in-Some-clause-packed c =
     let es = c.self.inside.experiments.list in
-    let lab = c.in-Some.place.lab in
+    let lab = c.in-Some.claimed_lab.lab in
     let all = packs_on c.in_ok-packed.packed c.push_lab.new.packed c.push_all.new.packed (Lab (the_texts.ptop lab) ∷ []) (flat_map (packed_one the_texts lab) es) c.in_ok-push_lab-in-Some.ensures c.in_ok-push_all-in-Some.ensures [] c.in_ok-packed.ensures in
     rw (← c.self.view_is) (subst (λ (p : Option ClaimedLab). ArePacked c.push_all.new.packed (packed_of the_texts (state_of p es))) (sym c.in-Some.is) all)
 

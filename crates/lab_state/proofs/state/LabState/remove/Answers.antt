@@ -5,8 +5,8 @@ use Rattle.lab_state.proofs.state.LabState.remove.Goals as goal
 
 pub invariant_of-self : goal.invariant_of-self
 invariant_of-self c =
-    let place = c.self.inside.place in
+    let claimed_lab = c.self.inside.claimed_lab in
     let es = c.self.inside.experiments.list in
     let found = rw (← c.self.view_is) at c.requires.out.1 in
     let sane = rw (← c.self.view_is) at c.requires.sane in
-    subst (IsKept place) (sym c.remove.ensures) (remove_kept place es c.args.exp c.requires.out.0 c.self.invariant found c.requires.out.2 sane)
+    subst (IsKept claimed_lab) (sym c.remove.ensures) (remove_kept claimed_lab es c.args.exp c.requires.out.0 c.self.invariant found c.requires.out.2 sane)

@@ -7,7 +7,7 @@ use Rattle.cost_rule.specs.Cost.{soft}
 use Rattle.cost_rule.specs.Parts.{parts_of, cost_of_parts, AreParts}
 use Rattle.cost_rule.proofs.PartLaws.{cost_is}
 use Rattle.node_maps.specs.NodeMaps.{plugs_of}
-use Rattle.map_state.specs.Members.{asked_place}
+use Rattle.map_state.specs.Members.{asked_index}
 use Rattle.map_state.specs.Hosted.{placed_at}
 use Rattle.map_state.specs.declared.predicted.Predicted.{Predicted}
 use Rattle.map_anneal.proofs.tried.Tried.least_of.Goals as goal
@@ -34,7 +34,7 @@ returns-in-Some-clause-soft c =
 pub returns-in-Some-clause-counted : goal.returns-in-Some-clause-counted
 returns-in-Some-clause-counted c =
     let w = c.args.search.now.mapper.wiring.now in
-    subst (λ o. IfSome o (λ (t : Predicted). t.counted ≡ asked_place w (virt_at w c.args.node).asks c.args.place.now.1)) c.in-Some.is c.predict.ensures.counted
+    subst (λ o. IfSome o (λ (t : Predicted). t.counted ≡ asked_index w (virt_at w c.args.node).asks c.args.place.now.1)) c.in-Some.is c.predict.ensures.counted
 
 pub returns-clause-least : goal.returns-clause-least
 returns-clause-least c = λ number plugs given. c.predict_but_uses.ensures.least number plugs

@@ -11,7 +11,7 @@ use Rattle.map_state.proofs.HostingLaws.{Went, guest_left, used_left, guests_wen
 use Rattle.virt_topo.proofs.CableLaws.{sound_limits}
 use Rattle.map_state.specs.Members.{AreMembers}
 use Rattle.map_state.specs.declared.members.Members.{Members}
-use Rattle.map_state.proofs.GuestLaws.{guests_few}
+use Rattle.map_state.proofs.HostedNodeLaws.{few_hosted}
 use Rattle.map_state.proofs.hosting.Hosting.go.Goals as goal
 
 abbrev others_at : Mapping → ℕ → ℕ → ℕ
@@ -27,9 +27,9 @@ leave-requires-clause-guest c =
     let node = c.requires.shaped.in_nodes c.args.virt no_place lt in
     let left = guest_left m.places c.args.virt a lt in
     let one : ◌≡◌ {A = ℕ} (cond (eqb a a) 1 0) 1 = ap (λ (b : Bool). cond b 1 0) (eq-eqb a a refl) in
-    let guests = c.requires.hosting.guests a node in
-    let at : ◌≡◌ {A = ℕ} (get_or c.args.self.now.guests.items c.node_of-from.result.0 0) (get_or c.args.self.now.guests.items a 0) = ap (λ (k : ℕ). get_or c.args.self.now.guests.items k 0) c.node_of-from.ensures in
-    omega (arith, left, one, guests, at)
+    let hosted = c.requires.hosting.hosted a node in
+    let at : ◌≡◌ {A = ℕ} (get_or c.args.self.now.hosted.items c.node_of-from.result.0 0) (get_or c.args.self.now.hosted.items a 0) = ap (λ (k : ℕ). get_or c.args.self.now.hosted.items k 0) c.node_of-from.ensures in
+    omega (arith, left, one, hosted, at)
 
 pub leave-requires-clause-used : goal.leave-requires-clause-used
 leave-requires-clause-used c = λ alone.
@@ -41,11 +41,11 @@ leave-requires-clause-used c = λ alone.
     let node = c.requires.shaped.in_nodes c.args.virt no_place lt in
     let left = guest_left m.places c.args.virt a lt in
     let one : ◌≡◌ {A = ℕ} (cond (eqb a a) 1 0) 1 = ap (λ (b : Bool). cond b 1 0) (eq-eqb a a refl) in
-    let guests = c.requires.hosting.guests a node in
-    let at : ◌≡◌ {A = ℕ} (get_or c.args.self.now.guests.items c.node_of-from.result.0 0) (get_or c.args.self.now.guests.items a 0) = ap (λ (k : ℕ). get_or c.args.self.now.guests.items k 0) c.node_of-from.ensures in
+    let hosted = c.requires.hosting.hosted a node in
+    let at : ◌≡◌ {A = ℕ} (get_or c.args.self.now.hosted.items c.node_of-from.result.0 0) (get_or c.args.self.now.hosted.items a 0) = ap (λ (k : ℕ). get_or c.args.self.now.hosted.items k 0) c.node_of-from.ensures in
     let used = used_left m.places c.args.virt lt in
     let nodes = c.requires.hosting.nodes in
-    let none : others_at m c.args.virt a ≡ 0 = omega (arith, left, one, guests, at, alone) in
+    let none : others_at m c.args.virt a ≡ 0 = omega (arith, left, one, hosted, at, alone) in
     let flag : ◌≡◌ {A = ℕ} (cond (eqb (others_at m c.args.virt a) 0) 1 0) 1 = ap (λ (b : Bool). cond b 1 0) (eq-eqb (others_at m c.args.virt a) 0 none) in
     omega (arith, used, nodes, flag)
 
@@ -64,11 +64,11 @@ returns-clause-hosts c =
 
 pub returns-clause-one_each : goal.returns-clause-one_each
 returns-clause-one_each c =
-    ap length c.join.ensures.guests ∙ length-set c.leave.new.self.guests.items c.args.place.0.0 _ ∙ ap length c.leave.ensures.guests
-    ∙ length-set c.args.self.now.guests.items c.node_of-from.result.0 _ ∙ c.requires.hosting.one_each
+    ap length c.join.ensures.hosted ∙ length-set c.leave.new.self.hosted.items c.args.place.0.0 _ ∙ ap length c.leave.ensures.hosted
+    ∙ length-set c.args.self.now.hosted.items c.node_of-from.result.0 _ ∙ c.requires.hosting.one_each
 
-pub returns-clause-guests : goal.returns-clause-guests
-returns-clause-guests c = λ n n_lt.
+pub returns-clause-hosted : goal.returns-clause-hosted
+returns-clause-hosted c = λ n n_lt.
     let lab = c.args.lab.now in
     let m = c.args.mapping.now in
     let v = c.args.virt in
@@ -80,18 +80,18 @@ returns-clause-guests c = λ n n_lt.
     let all = c.requires.shaped.places in
     let lt : v < length m.places = omega (arith, virt, all) in
     let from = c.node_of-from.ensures in
-    let g = x.guests.items in
-    let h = c.leave.new.self.guests.items in
-    let k = c.join.new.self.guests.items in
+    let g = x.hosted.items in
+    let h = c.leave.new.self.hosted.items in
+    let k = c.join.new.self.hosted.items in
     let went : Went (length lab.nodes) m.places v p g h k x.nodes c.leave.new.self.nodes c.join.new.self.nodes = record {
       one_each = hosting.one_each;
-      counted = hosting.guests;
+      counted = hosting.hosted;
       used = hosting.nodes;
       from = c.requires.shaped.in_nodes v no_place lt;
       to = c.requires.node;
-      left = c.leave.ensures.guests ∙ ap (λ (n : ℕ). set g n (get_or g n 0 - 1)) from;
+      left = c.leave.ensures.hosted ∙ ap (λ (n : ℕ). set g n (get_or g n 0 - 1)) from;
       left_used = ap (λ (n : ℕ). c.leave.new.self.nodes + cond (eqb (get_or g n 0) 1) 1 0) (sym from) ∙ c.leave.ensures.nodes;
-      joined = c.join.ensures.guests;
+      joined = c.join.ensures.hosted;
       joined_used = c.join.ensures.nodes;
     } in
     guests_went (length lab.nodes) m.places v p g h k x.nodes c.leave.new.self.nodes c.join.new.self.nodes lt went n n_lt
@@ -109,18 +109,18 @@ returns-clause-nodes c =
     let all = c.requires.shaped.places in
     let lt : v < length m.places = omega (arith, virt, all) in
     let from = c.node_of-from.ensures in
-    let g = x.guests.items in
-    let h = c.leave.new.self.guests.items in
-    let k = c.join.new.self.guests.items in
+    let g = x.hosted.items in
+    let h = c.leave.new.self.hosted.items in
+    let k = c.join.new.self.hosted.items in
     let went : Went (length lab.nodes) m.places v p g h k x.nodes c.leave.new.self.nodes c.join.new.self.nodes = record {
       one_each = hosting.one_each;
-      counted = hosting.guests;
+      counted = hosting.hosted;
       used = hosting.nodes;
       from = c.requires.shaped.in_nodes v no_place lt;
       to = c.requires.node;
-      left = c.leave.ensures.guests ∙ ap (λ (n : ℕ). set g n (get_or g n 0 - 1)) from;
+      left = c.leave.ensures.hosted ∙ ap (λ (n : ℕ). set g n (get_or g n 0 - 1)) from;
       left_used = ap (λ (n : ℕ). c.leave.new.self.nodes + cond (eqb (get_or g n 0) 1) 1 0) (sym from) ∙ c.leave.ensures.nodes;
-      joined = c.join.ensures.guests;
+      joined = c.join.ensures.hosted;
       joined_used = c.join.ensures.nodes;
     } in
     used_went (length lab.nodes) m.places v p g h k x.nodes c.leave.new.self.nodes c.join.new.self.nodes lt went
@@ -142,7 +142,7 @@ leave-requires-clause-within c =
 
 pub join-requires-clause-within : goal.join-requires-clause-within
 join-requires-clause-within c =
-    let len = ap length c.leave.ensures.guests ∙ length-set c.args.self.now.guests.items c.node_of-from.result.0 _ in
+    let len = ap length c.leave.ensures.hosted ∙ length-set c.args.self.now.hosted.items c.node_of-from.result.0 _ in
     let node = c.requires.node in
     let each = c.requires.hosting.one_each in
     omega (arith, len, node, each)
@@ -157,17 +157,17 @@ few_left g a b lt few = elim (cases_eq b a) [
 pub join-requires-clause-few : goal.join-requires-clause-few
 join-requires-clause-few c =
     let m = c.args.mapping.now in
-    let g = c.args.self.now.guests.items in
+    let g = c.args.self.now.hosted.items in
     let virt = c.requires.virt in
     let all = c.requires.shaped.places in
     let node = c.requires.shaped.in_nodes c.args.virt no_place (omega (arith, virt, all)) in
     let from = c.node_of-from.ensures in
     let each = c.requires.hosting.one_each in
-    let guests = c.requires.hosting.guests c.args.place.0.0 c.requires.node in
-    let few = guests_few m.places c.args.place.0.0 in
+    let hosted = c.requires.hosting.hosted c.args.place.0.0 c.requires.node in
+    let few = few_hosted m.places c.args.place.0.0 in
     let limits = (sound_limits c.args.wiring.now c.requires.sound).nodes in
-    subst (λ (l : List ℕ). get_or l c.args.place.0.0 0 ≤ 256) (sym c.leave.ensures.guests)
-    (few_left g c.node_of-from.result.0 c.args.place.0.0 (omega (arith, node, from, each)) (omega (arith, guests, few, limits, all)))
+    subst (λ (l : List ℕ). get_or l c.args.place.0.0 0 ≤ 256) (sym c.leave.ensures.hosted)
+    (few_left g c.node_of-from.result.0 c.args.place.0.0 (omega (arith, node, from, each)) (omega (arith, hosted, few, limits, all)))
 
 pub index_mut-requires : goal.index_mut-requires
 index_mut-requires c =

@@ -5,16 +5,16 @@ use Rattle.virt_topo.specs.declared.wiring.Wiring.{Wiring}
 use Rattle.virt_topo.specs.declared.mapping.Mapping.{Mapping}
 use Rattle.lab_model.specs.Rules.{no_place}
 use Rattle.cost_rule.proofs.PartLaws.{nodes_small}
-use Rattle.map_state.specs.Hosted.{IsHosting, guests_at}
+use Rattle.map_state.specs.Hosted.{IsHosting, hosted_at}
 use Rattle.map_state.specs.declared.hosting.Hosting.{Hosting}
 use Rattle.map_state.proofs.HostingLaws.{used_apart, used_some, used_stays}
 use Rattle.map_state.proofs.hosting.Hosting.nodes_after.Goals as goal
 
--- the guests that are read of a node
-guests_read : (lab : Lab) (w : Wiring) (m : Mapping) (x : Hosting) (n k count : ℕ) → IsHosting lab w m x → k ≡ n → n < length lab.nodes → count ≡ get_or x.guests.items k count → count ≡ guests_at m.places n
+-- how many virtual nodes are read as hosted on a node
+guests_read : (lab : Lab) (w : Wiring) (m : Mapping) (x : Hosting) (n k count : ℕ) → IsHosting lab w m x → k ≡ n → n < length lab.nodes → count ≡ get_or x.hosted.items k count → count ≡ hosted_at m.places n
 guests_read lab w m x n k count hosting at lt read =
     let each = hosting.one_each in
-    read ∙ ap (λ (j : ℕ). get_or x.guests.items j count) at ∙ get_or_default x.guests.items n count 0 (omega (arith, lt, each)) ∙ hosting.guests n lt
+    read ∙ ap (λ (j : ℕ). get_or x.hosted.items j count) at ∙ get_or_default x.hosted.items n count 0 (omega (arith, lt, each)) ∙ hosting.hosted n lt
 
 at_most : (b : Bool) → cond b 1 0 ≤ 1
 at_most true = omega arith
@@ -43,7 +43,7 @@ overflow_sub-result c =
     let lt : c.args.virt < length m.places = omega (arith, virt, all) in
     let node = c.requires.shaped.in_nodes c.args.virt no_place lt in
     let count = guests_read c.args.lab.now c.args.wiring.now m c.args.self.now (get_or m.places c.args.virt no_place).0.0 c.node_of-from.result.0 c.index-2.result.now c.requires.hosting c.node_of-from.ensures node c.index-2.ensures in
-    let flag : ◌≡◌ {A = ℕ} c.one_if-left.result (cond (eqb (guests_at m.places (get_or m.places c.args.virt no_place).0.0) 1) 1 0) = c.one_if-left.ensures ∙ ap (λ (k : ℕ). cond (eqb k 1) 1 0) count in
+    let flag : ◌≡◌ {A = ℕ} c.one_if-left.result (cond (eqb (hosted_at m.places (get_or m.places c.args.virt no_place).0.0) 1) 1 0) = c.one_if-left.ensures ∙ ap (λ (k : ℕ). cond (eqb k 1) 1 0) count in
     let some = used_some m.places c.args.virt lt in
     let nodes = c.requires.hosting.nodes in
     omega (arith, flag, some, nodes)
@@ -57,9 +57,9 @@ returns c =
     let a = (get_or m.places c.args.virt no_place).0.0 in
     let node = c.requires.shaped.in_nodes c.args.virt no_place lt in
     let count = guests_read c.args.lab.now c.args.wiring.now m c.args.self.now a c.node_of-from.result.0 c.index-2.result.now c.requires.hosting c.node_of-from.ensures node c.index-2.ensures in
-    let flag : ◌≡◌ {A = ℕ} c.one_if-left.result (cond (eqb (guests_at m.places a) 1) 1 0) = c.one_if-left.ensures ∙ ap (λ (k : ℕ). cond (eqb k 1) 1 0) count in
+    let flag : ◌≡◌ {A = ℕ} c.one_if-left.result (cond (eqb (hosted_at m.places a) 1) 1 0) = c.one_if-left.ensures ∙ ap (λ (k : ℕ). cond (eqb k 1) 1 0) count in
     let there = guests_read c.args.lab.now c.args.wiring.now m c.args.self.now c.args.place.now.0.0 c.args.place.now.0.0 c.index.result.now c.requires.hosting refl c.requires.node c.index.ensures in
-    let joined : ◌≡◌ {A = ℕ} c.one_if-joined.result (cond (eqb (guests_at m.places c.args.place.now.0.0) 0) 1 0) = c.one_if-joined.ensures ∙ ap (λ (k : ℕ). cond (eqb k 0) 1 0) there in
+    let joined : ◌≡◌ {A = ℕ} c.one_if-joined.result (cond (eqb (hosted_at m.places c.args.place.now.0.0) 0) 1 0) = c.one_if-joined.ensures ∙ ap (λ (k : ℕ). cond (eqb k 0) 1 0) there in
     let some = used_some m.places c.args.virt lt in
     let nodes = c.requires.hosting.nodes in
     used_apart m.places c.args.virt c.args.place.now (c.args.self.now.nodes + c.one_if-joined.result - c.one_if-left.result) lt

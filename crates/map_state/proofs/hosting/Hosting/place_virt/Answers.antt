@@ -62,10 +62,10 @@ returns-clause-hosting c =
     let soft = c.requires.hosting.soft in
     let kept = c.go.ensures.soft in
     let sum = c.changed-self.ensures in
-    subst (λ (y : Mapping). IsHosting lab w y (record { hosts = c.go.new.self.hosts; guests = c.go.new.self.guests; nodes = c.go.new.self.nodes; members = c.go.new.self.members; soft = c.changed-self.result })) (sym c.go.ensures.mapping) (record {
+    subst (λ (y : Mapping). IsHosting lab w y (record { hosts = c.go.new.self.hosts; hosted = c.go.new.self.hosted; nodes = c.go.new.self.nodes; members = c.go.new.self.members; soft = c.changed-self.result })) (sym c.go.ensures.mapping) (record {
       hosts = c.go.ensures.hosts;
       one_each = c.go.ensures.one_each;
-      guests = c.go.ensures.guests;
+      hosted = c.go.ensures.hosted;
       nodes = c.go.ensures.nodes;
       members = c.go.ensures.members;
       soft = omega (arith, law, before, gained, after, lost, soft, kept, sum);

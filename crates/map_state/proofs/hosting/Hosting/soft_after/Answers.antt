@@ -14,7 +14,7 @@ use Rattle.cost_rule.specs.Cost.{soft, soft_at, node_soft}
 use Rattle.cost_rule.proofs.PartLaws.{soft_small}
 use Rattle.map_state.specs.Hosted.{asked_soft, placed_at}
 use Rattle.map_state.proofs.HostingLaws.{soft_after, soft_alike}
-use Rattle.map_state.specs.Members.{asked_place, is_plain}
+use Rattle.map_state.specs.Members.{asked_index, is_plain}
 use Rattle.map_state.proofs.hosting.Hosting.soft_after.Goals as goal
 
 -- the old place, as it was read
@@ -48,7 +48,7 @@ no_class : (w : Wiring) (m : Mapping) (asks : Asks) (kind : List ℕ) → is_pla
 no_class w m (Plain t) kind is = refl
 no_class w m (InClass c) kind is = absurd (cc is)
 
-uncounted : (w : Wiring) (asks : Asks) (kind : List ℕ) → is_plain asks ≡ true → asked_place w asks kind ≡ None
+uncounted : (w : Wiring) (asks : Asks) (kind : List ℕ) → is_plain asks ≡ true → asked_index w asks kind ≡ None
 uncounted w (Plain t) kind is = refl
 uncounted w (InClass c) kind is = absurd (cc is)
 
@@ -183,8 +183,8 @@ returns-then-eq-clause-counted c =
     let lt : v < length m.places = omega (arith, c.requires.virt, all) in
     let is = read m v c.as_slice.result.now old lt c.as_slice.ensures c.index-as_slice-virt.is in
     c.counted.ensures ∙ c.requires.hosting.members.own v c.requires.virt
-    ∙ ap (λ (k : List ℕ). asked_place c.args.wiring.now (virt_at c.args.wiring.now v).asks k)
+    ∙ ap (λ (k : List ℕ). asked_index c.args.wiring.now (virt_at c.args.wiring.now v).asks k)
     (ap (λ (q : Place). q.1) (sym is) ∙ bytes_same old.1 c.args.place.now.1 (sym c.eq.ensures ∙ c.if-eq.true))
 
 pub returns-clause-counted : goal.returns-clause-counted
-returns-clause-counted c = c.virt_place-into.ensures.is
+returns-clause-counted c = c.virt_index-into.ensures.is

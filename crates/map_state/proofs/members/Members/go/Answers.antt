@@ -6,7 +6,7 @@ use Rattle.virt_topo.specs.Wirings.{virt_at}
 use Rattle.virt_topo.proofs.CableLaws.{sound_limits}
 use Rattle.lab_model.specs.Shapes.{Place}
 use Rattle.lab_model.specs.Rules.{no_place, place_at}
-use Rattle.map_state.specs.Members.{asked_place, one_at}
+use Rattle.map_state.specs.Members.{asked_index, one_at}
 use Rattle.map_state.specs.Hosted.{placed_at}
 use Rattle.map_state.proofs.MemberLaws.{counts, if_some, asked_there, asked_within, counted_at, counts_own, own_counted, members_few, members_went}
 use Rattle.map_state.proofs.members.Members.go.Goals as goal
@@ -83,10 +83,10 @@ returns c =
       own = λ k k_lt. ap (λ (l : List (Option ℕ)). get_or l k None) own ∙ (elim (cases_eq k v) [
         | inl is ↦
             (λ j. get_or (set before v c.args.into) (is j) None) ∙ get_or-set_same before v c.args.into None (omega (arith, virt, one_each)) ∙ c.requires.into
-            ∙ ap (λ (q : Place). asked_place w asks q.1) (sym (get_or-set_same m.places v p no_place lt))
-            ∙ (λ j. asked_place w (virt_at w (sym is j)).asks (place_at (placed_at m v p) (sym is j)).1)
+            ∙ ap (λ (q : Place). asked_index w asks q.1) (sym (get_or-set_same m.places v p no_place lt))
+            ∙ (λ j. asked_index w (virt_at w (sym is j)).asks (place_at (placed_at m v p) (sym is j)).1)
         | inr apart ↦
             get_or-set_other before v k c.args.into None apart ∙ c.requires.counted.own k k_lt
-            ∙ ap (λ (q : Place). asked_place w (virt_at w k).asks q.1) (sym (get_or-set_other m.places v k p no_place apart))
+            ∙ ap (λ (q : Place). asked_index w (virt_at w k).asks q.1) (sym (get_or-set_other m.places v k p no_place apart))
       ]);
     }

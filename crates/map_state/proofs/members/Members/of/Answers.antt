@@ -5,7 +5,7 @@ use Rattle.std.proofs.lemmas.List.{length-set}
 use Rattle.virt_topo.specs.Wirings.{virt_at}
 use Rattle.virt_topo.proofs.CableLaws.{sound_limits}
 use Rattle.lab_model.specs.Rules.{place_at}
-use Rattle.map_state.specs.Members.{asked_place, one_at}
+use Rattle.map_state.specs.Members.{asked_index, one_at}
 use Rattle.map_state.proofs.MemberLaws.{counts, if_some, asked_there, counted_at, members_few, members_step, members_end}
 use Rattle.map_state.proofs.members.Members.of.Goals as goal
 
@@ -45,7 +45,7 @@ loop-virt-preserved c =
       own = λ k k_lt. ap (λ (l : List (Option ℕ)). get_or l k None) own ∙ (elim (cases_eq k v) [
         | inl is ↦
             (λ j. get_or (set before v c.own_place.result) (is j) None) ∙ get_or-set_same before v c.own_place.result None (omega (arith, lt, one_each)) ∙ c.own_place.ensures.is
-            ∙ (λ j. asked_place w (virt_at w (sym is j)).asks (place_at m (sym is j)).1)
+            ∙ (λ j. asked_index w (virt_at w (sym is j)).asks (place_at m (sym is j)).1)
         | inr apart ↦ get_or-set_other before v k c.own_place.result None apart ∙ c.loop-virt.invariant.own k (omega (arith, k_lt, apart))
       ]);
     }

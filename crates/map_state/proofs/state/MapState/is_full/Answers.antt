@@ -4,7 +4,7 @@ use Rattle.std.proofs.lemmas.Bool.{le-leb, leb-true, false≢true, eq-eqb}
 use Rattle.std.proofs.lemmas.List.{get_or_default, length-set}
 use Rattle.lab_model.specs.Shapes.{Place, node_at}
 use Rattle.lab_model.specs.Rules.{no_place, number_of}
-use Rattle.map_state.specs.Hosted.{IsFull, guests_at, placed_at}
+use Rattle.map_state.specs.Hosted.{IsFull, hosted_at, placed_at}
 use Rattle.map_state.proofs.Alikes.{candidate_within}
 use Rattle.map_state.proofs.StateLaws.{shaped_at}
 use Rattle.map_state.proofs.FullLaws.{overfull_no_map}
@@ -22,10 +22,10 @@ returns-then-from-room-clause-full c =
     let own = c.index-as_slice-virt.result in
     let from : get_or c.as_slice.result.now v own ≡ get_or m.places v no_place = ap (λ (l : List Place). get_or l v own) c.as_slice.ensures ∙ get_or_default m.places v own no_place lt in
     let apart : (get_or m.places v no_place).0.0 ≢ room.node.0 = λ same. c.if-from-room.true (ap (λ (q : Place). q.0.0) from ∙ same) in
-    let guests = c.args.self.now.hosting.guests.items in
+    let hosted = c.args.self.now.hosting.hosted.items in
     let each = laid.hosting.one_each in
-    let here : ◌≡◌ {A = ℕ} c.index.result.now (guests_at m.places room.node.0) =
-    c.index.ensures ∙ get_or_default guests room.node.0 c.index.result.now 0 (omega (arith, node, each)) ∙ laid.hosting.guests room.node.0 node in (
+    let here : ◌≡◌ {A = ℕ} c.index.result.now (hosted_at m.places room.node.0) =
+    c.index.ensures ∙ get_or_default hosted room.node.0 c.index.result.now 0 (omega (arith, node, each)) ∙ laid.hosting.hosted room.node.0 node in (
       λ yes. (apart, (let full = leb-true room.most c.index.result.now yes in omega (arith, full, here))),
       λ full. le-leb room.most c.index.result.now (let as_many = full.1 in omega (arith, as_many, here)),
     )
@@ -43,7 +43,7 @@ returns-then-from-room-clause-none c = λ p among is yes.
     let full = is_full.1 in
     let more = guest_more m.places v p lt is_full.0 in
     let there : get_or (set m.places v p) v no_place ≡ p = get_or-set_same m.places v p no_place lt in
-    let on : ◌≡◌ {A = ℕ} (guests_at (set m.places v p) (get_or (set m.places v p) v no_place).0.0) (guests_at (set m.places v p) p.0.0) = ap (λ (q : Place). guests_at (set m.places v p) q.0.0) there in
+    let on : ◌≡◌ {A = ℕ} (hosted_at (set m.places v p) (get_or (set m.places v p) v no_place).0.0) (hosted_at (set m.places v p) p.0.0) = ap (λ (q : Place). hosted_at (set m.places v p) q.0.0) there in
     let allowed : ◌≡◌ {A = ℕ} (number_of (node_at lab (get_or (set m.places v p) v no_place).0).types (get_or (set m.places v p) v no_place).1) (number_of (node_at lab p.0).types p.1) = ap (λ (q : Place). number_of (node_at lab q.0).types q.1) there in
     overfull_no_map lab x.free.now x.wiring.now (placed_at m v p) v (shaped_at lab x.wiring.now m v p laid.shaped within.0 within.1) (omega (arith, lt, length-set m.places v p)) (omega (arith, full, more, on, allowed))
 

@@ -3,13 +3,13 @@ use Rattle.std.proofs.lemmas.Bool.{eq-eqb, le-leb, leb-true}
 use Rattle.std.proofs.lemmas.List.{get_or_default}
 use Rattle.lab_model.specs.Shapes.{Place, node_at, has_name}
 use Rattle.lab_model.specs.Rules.{no_place, number_of}
-use Rattle.map_state.specs.Hosted.{guests_at}
+use Rattle.map_state.specs.Hosted.{hosted_at}
 use Rattle.map_state.proofs.FullLaws.{overfull_no_map}
 use Rattle.map_state.proofs.HostingLaws.{guest_left}
 use Rattle.map_state.proofs.state.MapState.is_overfull.Goals as goal
 
 -- a virtual node is on its own node
-one_there : (places : List Place) (v : ℕ) → v < length places → 1 ≤ guests_at places (get_or places v no_place).0.0
+one_there : (places : List Place) (v : ℕ) → v < length places → 1 ≤ hosted_at places (get_or places v no_place).0.0
 one_there places v lt =
     let n = (get_or places v no_place).0.0 in
     let count = guest_left places v n lt in
@@ -28,10 +28,10 @@ overflow_sub-index c =
     let place : p ≡ q = c.index-as_slice-virt.is ∙ ap (λ (l : List Place). get_or l v p) c.as_slice.ensures ∙ get_or_default m.places v p no_place lt in
     let node = laid.shaped.in_nodes v no_place lt in
     let at : ◌≡◌ {A = ℕ} p.0.0 q.0.0 = ap (λ (y : Place). y.0.0) place in
-    let guests = c.args.self.now.hosting.guests.items in
+    let hosted = c.args.self.now.hosting.hosted.items in
     let each = laid.hosting.one_each in
-    let here : ◌≡◌ {A = ℕ} c.index.result.now (guests_at m.places q.0.0) =
-    c.index.ensures ∙ get_or_default guests p.0.0 c.index.result.now 0 (omega (arith, node, at, each)) ∙ ap (λ (k : ℕ). get_or guests k 0) at ∙ laid.hosting.guests q.0.0 node in
+    let here : ◌≡◌ {A = ℕ} c.index.result.now (hosted_at m.places q.0.0) =
+    c.index.ensures ∙ get_or_default hosted p.0.0 c.index.result.now 0 (omega (arith, node, at, each)) ∙ ap (λ (k : ℕ). get_or hosted k 0) at ∙ laid.hosting.hosted q.0.0 node in
     let one = one_there m.places v lt in
     omega (arith, here, one)
 
@@ -48,10 +48,10 @@ returns-clause-overfull c =
     let place : p ≡ q = c.index-as_slice-virt.is ∙ ap (λ (l : List Place). get_or l v p) c.as_slice.ensures ∙ get_or_default m.places v p no_place lt in
     let node = laid.shaped.in_nodes v no_place lt in
     let at : ◌≡◌ {A = ℕ} p.0.0 q.0.0 = ap (λ (y : Place). y.0.0) place in
-    let guests = c.args.self.now.hosting.guests.items in
+    let hosted = c.args.self.now.hosting.hosted.items in
     let each = laid.hosting.one_each in
-    let here : ◌≡◌ {A = ℕ} c.index.result.now (guests_at m.places q.0.0) =
-    c.index.ensures ∙ get_or_default guests p.0.0 c.index.result.now 0 (omega (arith, node, at, each)) ∙ ap (λ (k : ℕ). get_or guests k 0) at ∙ laid.hosting.guests q.0.0 node in
+    let here : ◌≡◌ {A = ℕ} c.index.result.now (hosted_at m.places q.0.0) =
+    c.index.ensures ∙ get_or_default hosted p.0.0 c.index.result.now 0 (omega (arith, node, at, each)) ∙ ap (λ (k : ℕ). get_or hosted k 0) at ∙ laid.hosting.hosted q.0.0 node in
     let one = one_there m.places v lt in
     let most = number_of (node_at lab p.0).types p.1 in
     let same : ◌≡◌ {A = ℕ} most (number_of (node_at lab q.0).types q.1) = ap (λ (y : Place). number_of (node_at lab y.0).types y.1) place in (

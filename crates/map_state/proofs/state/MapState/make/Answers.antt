@@ -51,7 +51,7 @@ returns-clause-state c =
       hosting = record {
         hosts = laid.hosting.hosts;
         one_each = laid.hosting.one_each;
-        guests = laid.hosting.guests;
+        hosted = laid.hosting.hosted;
         nodes = laid.hosting.nodes;
         members = record { room = members.room; each = members.each; one_each = members.one_each; own = members.own };
         soft = laid.hosting.soft;

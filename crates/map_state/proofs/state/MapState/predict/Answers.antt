@@ -20,8 +20,8 @@ use Rattle.map_state.proofs.PartSums.{uses_are}
 use Rattle.map_state.proofs.HostingLaws.{used_alone}
 use Rattle.map_state.proofs.state.MapState.predict.Goals as goal
 
-pub is_lone-requires-clause-node : goal.is_lone-requires-clause-node
-is_lone-requires-clause-node c =
+pub can_predict-requires-clause-node : goal.can_predict-requires-clause-node
+can_predict-requires-clause-node c =
     let x = c.args.search.now.mapper in
     let laid = c.requires.state.state in
     let lt : c.args.virt < length c.args.self.now.mapping.places = (let all = laid.shaped.places in let virt = c.requires.virt in omega (arith, virt, all)) in
@@ -45,7 +45,7 @@ uses_in_order-uses-requires-clause-few c =
     let n = c.args.place.now.0.0 in
     let end : ℕ → End = λ k. get_or x.mapper.ends.now k no_end in
     let numbers = numbers_of 0 (λ e. e.node == c.args.virt) x.mapper.ends.now in
-    let lone = c.is_lone.ensures.0 c.if-not-is_lone.false in
+    let lone = c.can_predict.ensures.0 c.if-not-can_predict.false in
     let few = in_order_few (map end numbers) (ifaces_of 0 x.mapper.lab.now.ifaces n) lone.in_order in
     let all = length-map numbers end in
     let ifaces : length c.of.result.now ≡ length (ifaces_of 0 x.mapper.lab.now.ifaces n) = ap length (c.of.ensures ∙ c.requires.search.mapper.ifaces.each n) in
@@ -72,7 +72,7 @@ returns-clause-parts c = λ plugs given.
     let virt = c.requires.virt in
     let lt : v < length m.places = omega (arith, virt, all) in
     let within = candidate_within lab x.mapper.free.now w m.places v p laid.choice lt c.requires.among in
-    let lone = c.is_lone.ensures.0 c.if-not-is_lone.false in
+    let lone = c.can_predict.ensures.0 c.if-not-can_predict.false in
     let moved : Mapping = record { places = set m.places v p; plugs = plugs } in
     let made : remade m.plugs (lone_changes x v p) ≡ plugs = same_Some (remade m.plugs (lone_changes x v p)) plugs (sym (lone_plugs x b v p c.requires.search c.requires.state lt within.0 within.1 lone) ∙ given) in
     let there = shaped_at lab w m v p laid.shaped within.0 within.1 in
@@ -102,7 +102,7 @@ returns-clause-fit c =
     let virt = c.requires.virt in
     let lt : v < length m.places = omega (arith, virt, all) in
     let within = candidate_within lab x.mapper.free.now w m.places v p laid.choice lt c.requires.among in
-    let lone = c.is_lone.ensures.0 c.if-not-is_lone.false in
+    let lone = c.can_predict.ensures.0 c.if-not-can_predict.false in
     let plugs = remade m.plugs (lone_changes x v p) in
     let given = lone_plugs x b v p c.requires.search c.requires.state lt within.0 within.1 lone in
     let there = shaped_at lab w m v p laid.shaped within.0 within.1 in

@@ -2,7 +2,7 @@ use Rattle.std.proofs.Common.{◌≡◌, List, sym, subst}
 use Rattle.plant.specs.Disks.{disk}
 use Rattle.plant.specs.Events.{Event, Wrote}
 use Rattle.plant.specs.declared.step.Side.TheVariants.{A, B}
-use Rattle.plant_mem.specs.Faces.{disk_of}
+use Rattle.plant_mem.specs.MemSides.{disk_of}
 use Rattle.mem_folder.specs.MemFolders.{trace_of, AreBegun}
 use Rattle.mem_folder.proofs.Pasts.{begun_more, disk_more}
 use Rattle.mem_folder.proofs.mem_calls.MemFolderFolderFiles.write.Goals as goal

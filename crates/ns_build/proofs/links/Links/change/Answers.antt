@@ -6,11 +6,11 @@ use Rattle.ns_build.proofs.links.Links.change.Goals as goal
 
 pub invariant_of-self : goal.invariant_of-self
 invariant_of-self c =
-    places_set c.self.inside.list.items (get nat_eq c.self.inside.places) c.args.change c.args.place c.index_mut.result.now _ (omega (arith, c.len.ensures)) c.index_mut.ensures.value c.change_link.ensures c.self.invariant
+    places_set c.self.inside.list.items (get nat_eq c.self.inside.places) c.args.change c.args.index c.index_mut.result.now _ (omega (arith, c.len.ensures)) c.index_mut.ensures.value c.change_link.ensures c.self.invariant
 
-pub returns-then-place-len : goal.returns-then-place-len
-returns-then-place-len c =
-    link_set _ _ c.args.change c.args.place c.index_mut.result.now _ c.self.view_is (omega (arith, c.len.ensures)) c.index_mut.ensures.value c.change_link.ensures
+pub returns-then-index-len : goal.returns-then-index-len
+returns-then-index-len c =
+    link_set _ _ c.args.change c.args.index c.index_mut.result.now _ c.self.view_is (omega (arith, c.len.ensures)) c.index_mut.ensures.value c.change_link.ensures
 
-pub returns-else-place-len : goal.returns-else-place-len
-returns-else-place-len c = link_same _ _ c.args.change c.args.place c.self.view_is (omega (arith, c.len.ensures))
+pub returns-else-index-len : goal.returns-else-index-len
+returns-else-index-len c = link_same _ _ c.args.change c.args.index c.self.view_is (omega (arith, c.len.ensures))

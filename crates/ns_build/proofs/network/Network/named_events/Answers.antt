@@ -9,7 +9,7 @@ use Rattle.ns_build.proofs.network.Network.named_events.Goals as goal
 
 pub named_event-requires : goal.named_event-requires
 named_event-requires c =
-    let none : Planned = record { at = 0; place = 0; what = Down; line = 0 } in
+    let none : Planned = record { at = 0; index = 0; what = Down; line = 0 } in
     let items = c.deref-event-items.result.now in
     let i = c.loop-event.event-index in
     let e = get_or items i none in

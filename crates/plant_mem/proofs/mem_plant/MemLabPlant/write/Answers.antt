@@ -1,7 +1,7 @@
 use Rattle.std.proofs.Common.{◌≡◌, length, ap, ◌∙◌, subst, rules}
 use Rattle.plant.specs.DiskCalls.{DiskCause}
 use Rattle.plant.specs.Events.{Wrote}
-use Rattle.plant_mem.specs.Fates.{fate, answered, after_call, has_effect}
+use Rattle.plant_mem.specs.CallEnds.{call_end, answered, after_call, has_effect}
 use Rattle.plant_mem.specs.Held.{Held, held_of}
 use Rattle.plant_mem.specs.Rooms.{KeepsRooms, can_write, rooms_of}
 use Rattle.plant_mem.proofs.Calls.{wrote_steps, counted_faults}
@@ -13,20 +13,20 @@ returns-clause-trace c =
     let self = c.args.self.now in
     let room = can_write self c.args.side c.args.at (length c.args.bytes.now) in
     let h = held_of self in
-    let answer : c.end.result ≡ answered (fate room h) tt = search rules in
+    let answer : c.end.result ≡ answered (call_end room h) tt = search rules in
     let leaves : held_of c.end.new.self ≡ after_call room c.args.side (Wrote c.args.side c.args.at c.args.bytes.now) h = search rules in
     wrote_steps room c.args.side h (held_of c.end.new.self) c.end.result answer c.args.at c.args.bytes.now leaves
 
 pub returns-clause-cause : goal.returns-clause-cause
 returns-clause-cause c =
-    let faults = ap (λ (h : Held). h.faults) c.write_if.ensures.held ∙ ap (λ (h : Held). h.faults) c.meet-fate.ensures.held ∙ counted_faults c.can_write-has_room.result (held_of c.args.self.now) in
+    let faults = ap (λ (h : Held). h.faults) c.write_if.ensures.held ∙ ap (λ (h : Held). h.faults) c.count_call-call_end.ensures.held ∙ counted_faults c.can_write-has_room.result (held_of c.args.self.now) in
     subst (λ before. DiskCause before c.end.new.self.faults c.end.result) faults c.end.ensures.cause
 
 pub returns-clause-rooms : goal.returns-clause-rooms
 returns-clause-rooms c =
     let self = c.args.self.now in
     let size = length c.args.bytes.now in
-    let met : rooms_of c.meet-fate.new.self ≡ rooms_of self = search rules in
+    let met : rooms_of c.count_call-call_end.new.self ≡ rooms_of self = search rules in
     let write : KeepsRooms 1 size (rooms_of self) (rooms_of c.write_if.new.self) = subst (λ r. KeepsRooms 1 size r (rooms_of c.write_if.new.self)) met c.write_if.ensures.rooms in
-    let effect : c.has_effect.result ≡ has_effect c.meet-fate.result = c.has_effect.ensures in
-    written c.meet-fate.result size (rooms_of self) (rooms_of c.write_if.new.self) (rooms_of c.end.new.self) write (λ none. c.write_if.ensures.same (rw effect none) ∙ met) c.end.ensures.rooms c.end.ensures.same
+    let effect : c.has_effect.result ≡ has_effect c.count_call-call_end.result = c.has_effect.ensures in
+    written c.count_call-call_end.result size (rooms_of self) (rooms_of c.write_if.new.self) (rooms_of c.end.new.self) write (λ none. c.write_if.ensures.same (rw effect none) ∙ met) c.end.ensures.rooms c.end.ensures.same

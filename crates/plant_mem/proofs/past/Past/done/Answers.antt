@@ -25,6 +25,6 @@ invariant_of-self c =
       within = after.within;
       a_is = self.a_is ∙ sym (after.disks A);
       b_is = self.b_is ∙ sym (after.disks B);
-      known = known_done (trace_of self.bytes.items self.steps.items) (trace_of self.bytes.items c.add_step.new.steps.items) self.nodes.nodes.items c.apply-answer.new.self.nodes.items self.nodes.pipes.items c.apply-answer.new.self.pipes.items op c.args.motion c.apply-answer.result after.worlds c.apply-answer.ensures.answer c.apply-answer.ensures.states c.apply-answer.ensures.oses c.apply-answer.ensures.set self.known;
+      known = known_done (trace_of self.bytes.items self.steps.items) (trace_of self.bytes.items c.add_step.new.steps.items) self.nodes.nodes.items c.apply-answer.new.self.nodes.items self.nodes.pipes.items c.apply-answer.new.self.pipes.items op c.args.boot_step c.apply-answer.result after.worlds c.apply-answer.ensures.answer c.apply-answer.ensures.states c.apply-answer.ensures.oses c.apply-answer.ensures.set self.known;
       rows_are = rows_done (trace_of self.bytes.items self.steps.items) (trace_of self.bytes.items c.add_step.new.steps.items) c.apply.new.rows.items op c.apply-answer.result after.worlds (c.apply.ensures.rows (world_of (trace_of self.bytes.items self.steps.items)) self.rows_are);
     }

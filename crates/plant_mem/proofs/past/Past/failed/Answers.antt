@@ -25,6 +25,6 @@ invariant_of-self c =
       within = after.within;
       a_is = self.a_is ∙ sym (after.disks A);
       b_is = self.b_is ∙ sym (after.disks B);
-      known = known_failed (trace_of self.bytes.items self.steps.items) (trace_of self.bytes.items c.add_step.new.steps.items) self.nodes.nodes.items c.apply_if-2.new.self.nodes.items self.nodes.pipes.items c.apply_if-2.new.self.pipes.items op c.args.motion c.args.applied c.args.fault after.worlds c.apply_if-2.ensures.states c.apply_if-2.ensures.oses c.apply_if-2.ensures.set self.known;
+      known = known_failed (trace_of self.bytes.items self.steps.items) (trace_of self.bytes.items c.add_step.new.steps.items) self.nodes.nodes.items c.apply_if-2.new.self.nodes.items self.nodes.pipes.items c.apply_if-2.new.self.pipes.items op c.args.boot_step c.args.applied c.args.fault after.worlds c.apply_if-2.ensures.states c.apply_if-2.ensures.oses c.apply_if-2.ensures.set self.known;
       rows_are = rows_failed (trace_of self.bytes.items self.steps.items) (trace_of self.bytes.items c.add_step.new.steps.items) c.apply_if.new.rows.items op c.args.applied c.args.fault after.worlds (c.apply_if.ensures.rows (world_of (trace_of self.bytes.items self.steps.items)) self.rows_are);
     }

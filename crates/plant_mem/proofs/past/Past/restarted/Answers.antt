@@ -1,7 +1,7 @@
 use Rattle.std.proofs.Common.{sym, ap, ◌≡◌, ◌∙◌, ◌++◌, length, rules, ℕ, List}
 use Rattle.plant.specs.declared.step.Side.TheVariants.{A, B}
 use Rattle.plant.specs.Disks.{Disk}
-use Rattle.plant_mem.specs.Faces.{disk_of}
+use Rattle.plant_mem.specs.MemSides.{disk_of}
 use Rattle.plant_mem.specs.Picks.{left_by}
 use Rattle.plant.specs.Events as events
 use Rattle.plant_mem.proofs.Growing.{Grown, grown_restart}

@@ -3,7 +3,7 @@ use Rattle.plant.specs.Calls.{Fits}
 use Rattle.lab_model.specs.Courses.{Left}
 use Rattle.swap_txn.specs.States.{Progress, stage_of}
 use Rattle.swap_txn.specs.declared.stage.Stage.TheVariants.{Boot}
-use Rattle.swap_txn.proofs.Places.{boot_left, stage_is}
+use Rattle.swap_txn.proofs.Positions.{boot_left, stage_is}
 use Rattle.swap_txn.proofs.Stepping.{watched_by, unwatched_by}
 use Rattle.swap_txn.proofs.sending.Sending.go_on.Goals as goal
 

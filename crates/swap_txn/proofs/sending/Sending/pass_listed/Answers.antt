@@ -2,7 +2,7 @@ use Rattle.std.proofs.Common.{◌≡◌, ◌∙◌, sym, ap, drop}
 use Rattle.lab_model.specs.Courses.{Left}
 use Rattle.swap_txn.specs.States.{Progress}
 use Rattle.swap_txn.specs.Views.{rest, left_of}
-use Rattle.swap_txn.proofs.Places.{listed_left, is_listed}
+use Rattle.swap_txn.proofs.Positions.{listed_left, is_listed}
 use Rattle.swap_txn.proofs.sending.Sending.pass_listed.Goals as goal
 
 pub returns-clause-left : goal.returns-clause-left

@@ -1,6 +1,6 @@
 use Rattle.std.proofs.Common.{◌≡◌, sym, subst}
 use Rattle.swap_txn.specs.States.{Progress, stage_of}
-use Rattle.swap_txn.proofs.Places.{stage_is}
+use Rattle.swap_txn.proofs.Positions.{stage_is}
 use Rattle.swap_txn.proofs.sending.Sending.stage.Goals as goal
 
 pub returns : goal.returns

@@ -2,7 +2,7 @@ use Rattle.std.proofs.Common.{◌≡◌, ◌∙◌, ◌∷◌, sym, ap, drop, []
 use Rattle.lab_model.specs.Courses.{Left}
 use Rattle.swap_txn.specs.States.{Progress, stage_of}
 use Rattle.swap_txn.specs.Views.{watch_of}
-use Rattle.swap_txn.proofs.Places.{boot_left}
+use Rattle.swap_txn.proofs.Positions.{boot_left}
 use Rattle.swap_txn.proofs.Stepping.{boot_goes}
 use Rattle.swap_txn.proofs.sending.Sending.watch_next.Goals as goal
 

@@ -151,12 +151,12 @@ inner_operand-returns-in_err-value-clause-evals g t c =
 
 pub inner_operand-returns-then-not-closes_at-clause-evals : goal.inner_operand-returns-then-not-closes_at-clause-evals
 inner_operand-returns-then-not-closes_at-clause-evals g t c =
-    expressions.not_closed (g.H.Host.calls c.args.line) g.H.Host.hears c.args.levels c.in_ok-levels.levels c.args.text.now c.args.at c.args.live (seen g.H.Host.objects c.args.self.now) (seen g.H.Host.objects c.tier.new.self) (c.in_ok-value.value, c.in_ok-value.end) c.requires.opening c.in_ok-levels.ensures.deeper c.in_ok-value.ensures.evals (sym (rw c.behind_blanks-end.ensures.place at c.closes_at.ensures.closes) ∙ c.if-not-closes_at.true)
+    expressions.not_closed (g.H.Host.calls c.args.line) g.H.Host.hears c.args.levels c.in_ok-levels.levels c.args.text.now c.args.at c.args.live (seen g.H.Host.objects c.args.self.now) (seen g.H.Host.objects c.tier.new.self) (c.in_ok-value.value, c.in_ok-value.end) c.requires.opening c.in_ok-levels.ensures.deeper c.in_ok-value.ensures.evals (sym (rw c.after_blanks-end.ensures.place at c.closes_at.ensures.closes) ∙ c.if-not-closes_at.true)
 
 pub inner_operand-returns-clause-evals : goal.inner_operand-returns-clause-evals
 inner_operand-returns-clause-evals g t c =
     let f : SFits w64 c.in_ok-value.value = search rules in
-    rw (to_z-of_z w64 c.in_ok-value.value f) (rw c.behind_blanks-end.ensures.place (expressions.parenthesis (g.H.Host.calls c.args.line) g.H.Host.hears c.args.levels c.in_ok-levels.levels c.args.text.now c.args.at c.args.live (seen g.H.Host.objects c.args.self.now) (seen g.H.Host.objects c.tier.new.self) (c.in_ok-value.value, c.in_ok-value.end) c.requires.opening c.in_ok-levels.ensures.deeper c.in_ok-value.ensures.evals (sym (rw c.behind_blanks-end.ensures.place at c.closes_at.ensures.closes) ∙ c.if-not-closes_at.false)))
+    rw (to_z-of_z w64 c.in_ok-value.value f) (rw c.after_blanks-end.ensures.place (expressions.parenthesis (g.H.Host.calls c.args.line) g.H.Host.hears c.args.levels c.in_ok-levels.levels c.args.text.now c.args.at c.args.live (seen g.H.Host.objects c.args.self.now) (seen g.H.Host.objects c.tier.new.self) (c.in_ok-value.value, c.in_ok-value.end) c.requires.opening c.in_ok-levels.ensures.deeper c.in_ok-value.ensures.evals (sym (rw c.after_blanks-end.ensures.place at c.closes_at.ensures.closes) ∙ c.if-not-closes_at.false)))
 
 pub invoke-returns-in-None-clause-evals : goal.invoke-returns-in-None-clause-evals
 invoke-returns-in-None-clause-evals g t c =
@@ -186,19 +186,19 @@ minus_operand-returns-in_err-levels-clause-evals g t c =
 pub minus_operand-returns-in_err-value-clause-evals : goal.minus_operand-returns-in_err-value-clause-evals
 minus_operand-returns-in_err-value-clause-evals g t c =
     let p = err_from_is_err_and c.from_residual-in_err-value.result c.from_residual-in_err-value.ensures.1 in
-    rw (p.1, p.2) (expressions.minus_halts (g.H.Host.calls c.args.line) g.H.Host.hears c.args.levels c.in_ok-levels.levels c.args.text.now c.args.at c.args.live (seen g.H.Host.objects c.args.self.now) (seen g.H.Host.objects c.operand.new.self) c.in_err-value.field-0.0 c.requires.opening c.in_ok-levels.ensures.deeper (rw c.behind_blanks.ensures.place at c.in_err-value.ensures.evals))
+    rw (p.1, p.2) (expressions.minus_halts (g.H.Host.calls c.args.line) g.H.Host.hears c.args.levels c.in_ok-levels.levels c.args.text.now c.args.at c.args.live (seen g.H.Host.objects c.args.self.now) (seen g.H.Host.objects c.operand.new.self) c.in_err-value.field-0.0 c.requires.opening c.in_ok-levels.ensures.deeper (rw c.after_blanks.ensures.place at c.in_err-value.ensures.evals))
 
 pub minus_operand-returns-in_err-negated-clause-evals : goal.minus_operand-returns-in_err-negated-clause-evals
 minus_operand-returns-in_err-negated-clause-evals g t c =
     let p = err_from_is_err_and c.from_residual-in_err-negated.result c.from_residual-in_err-negated.ensures.1 in
     let f : SFits w64 c.in_ok-value.value = search rules in
-    rw (p.1, p.2) (expressions.negate_fails (g.H.Host.calls c.args.line) g.H.Host.hears c.args.levels c.in_ok-levels.levels c.args.text.now c.args.at c.args.live (seen g.H.Host.objects c.args.self.now) (seen g.H.Host.objects c.operand.new.self) (c.in_ok-value.value, c.in_ok-value.end) c.in_err-negated.field-0.0 c.requires.opening c.in_ok-levels.ensures.deeper (rw c.behind_blanks.ensures.place at c.in_ok-value.ensures.evals) (subst (λ (z : ℤ). IsValue (neg_ℤ z) (Err c.in_err-negated.field-0.0)) (to_z-of_z w64 c.in_ok-value.value f) c.in_err-negated.ensures))
+    rw (p.1, p.2) (expressions.negate_fails (g.H.Host.calls c.args.line) g.H.Host.hears c.args.levels c.in_ok-levels.levels c.args.text.now c.args.at c.args.live (seen g.H.Host.objects c.args.self.now) (seen g.H.Host.objects c.operand.new.self) (c.in_ok-value.value, c.in_ok-value.end) c.in_err-negated.field-0.0 c.requires.opening c.in_ok-levels.ensures.deeper (rw c.after_blanks.ensures.place at c.in_ok-value.ensures.evals) (subst (λ (z : ℤ). IsValue (neg_ℤ z) (Err c.in_err-negated.field-0.0)) (to_z-of_z w64 c.in_ok-value.value f) c.in_err-negated.ensures))
 
 pub minus_operand-returns-clause-evals : goal.minus_operand-returns-clause-evals
 minus_operand-returns-clause-evals g t c =
     let f : SFits w64 c.in_ok-value.value = search rules in
     let n : SFits w64 c.in_ok-negated.field-0 = search rules in
-    rw (to_z-of_z w64 c.in_ok-negated.field-0 n) (expressions.negates (g.H.Host.calls c.args.line) g.H.Host.hears c.args.levels c.in_ok-levels.levels c.args.text.now c.args.at c.args.live (seen g.H.Host.objects c.args.self.now) (seen g.H.Host.objects c.operand.new.self) (c.in_ok-value.value, c.in_ok-value.end) c.in_ok-negated.field-0 c.requires.opening c.in_ok-levels.ensures.deeper (rw c.behind_blanks.ensures.place at c.in_ok-value.ensures.evals) (subst (λ (z : ℤ). IsValue (neg_ℤ z) (Ok c.in_ok-negated.field-0)) (to_z-of_z w64 c.in_ok-value.value f) c.in_ok-negated.ensures))
+    rw (to_z-of_z w64 c.in_ok-negated.field-0 n) (expressions.negates (g.H.Host.calls c.args.line) g.H.Host.hears c.args.levels c.in_ok-levels.levels c.args.text.now c.args.at c.args.live (seen g.H.Host.objects c.args.self.now) (seen g.H.Host.objects c.operand.new.self) (c.in_ok-value.value, c.in_ok-value.end) c.in_ok-negated.field-0 c.requires.opening c.in_ok-levels.ensures.deeper (rw c.after_blanks.ensures.place at c.in_ok-value.ensures.evals) (subst (λ (z : ℤ). IsValue (neg_ℤ z) (Ok c.in_ok-negated.field-0)) (to_z-of_z w64 c.in_ok-value.value f) c.in_ok-negated.ensures))
 
 pub nested-returns-in_err-levels-clause-evals : goal.nested-returns-in_err-levels-clause-evals
 nested-returns-in_err-levels-clause-evals g t c =
@@ -217,14 +217,14 @@ not_operand-returns-in_err-levels-clause-evals g t c =
 pub not_operand-returns-in_err-value-clause-evals : goal.not_operand-returns-in_err-value-clause-evals
 not_operand-returns-in_err-value-clause-evals g t c =
     let p = err_from_is_err_and c.from_residual-in_err-value.result c.from_residual-in_err-value.ensures.1 in
-    rw (p.1, p.2) (expressions.not_halts (g.H.Host.calls c.args.line) g.H.Host.hears c.args.levels c.in_ok-levels.levels c.args.text.now c.args.at c.args.live (seen g.H.Host.objects c.args.self.now) (seen g.H.Host.objects c.operand.new.self) c.in_err-value.field-0.0 c.requires.opening c.in_ok-levels.ensures.deeper (rw c.behind_blanks.ensures.place at c.in_err-value.ensures.evals))
+    rw (p.1, p.2) (expressions.not_halts (g.H.Host.calls c.args.line) g.H.Host.hears c.args.levels c.in_ok-levels.levels c.args.text.now c.args.at c.args.live (seen g.H.Host.objects c.args.self.now) (seen g.H.Host.objects c.operand.new.self) c.in_err-value.field-0.0 c.requires.opening c.in_ok-levels.ensures.deeper (rw c.after_blanks.ensures.place at c.in_err-value.ensures.evals))
 
 pub not_operand-returns-clause-evals : goal.not_operand-returns-clause-evals
 not_operand-returns-clause-evals g t c =
     let f : SFits w64 c.in_ok-value.value = search rules in
     let n : SFits w64 c.alive.result = search rules in
     let k : SFits w64 c.turned.result = search rules in
-    rw (to_z-of_z w64 c.alive.result n, c.alive.ensures, to_z-of_z w64 c.turned.result k) (expressions.not_ends (g.H.Host.calls c.args.line) g.H.Host.hears c.args.levels c.in_ok-levels.levels c.args.text.now c.args.at c.args.live (seen g.H.Host.objects c.args.self.now) (seen g.H.Host.objects c.operand.new.self) (c.in_ok-value.value, c.in_ok-value.end) c.turned.result c.requires.opening c.in_ok-levels.ensures.deeper (rw c.behind_blanks.ensures.place at c.in_ok-value.ensures.evals) (subst (λ (z : ℤ). IsNot z c.turned.result) (to_z-of_z w64 c.in_ok-value.value f) c.turned.ensures))
+    rw (to_z-of_z w64 c.alive.result n, c.alive.ensures, to_z-of_z w64 c.turned.result k) (expressions.not_ends (g.H.Host.calls c.args.line) g.H.Host.hears c.args.levels c.in_ok-levels.levels c.args.text.now c.args.at c.args.live (seen g.H.Host.objects c.args.self.now) (seen g.H.Host.objects c.operand.new.self) (c.in_ok-value.value, c.in_ok-value.end) c.turned.result c.requires.opening c.in_ok-levels.ensures.deeper (rw c.after_blanks.ensures.place at c.in_ok-value.ensures.evals) (subst (λ (z : ℤ). IsNot z c.turned.result) (to_z-of_z w64 c.in_ok-value.value f) c.turned.ensures))
 
 pub operand-returns-in_err-literal-in-Digits-clause-evals : goal.operand-returns-in_err-literal-in-Digits-clause-evals
 operand-returns-in_err-literal-in-Digits-clause-evals g t c =
@@ -489,7 +489,7 @@ substitute-returns-clause-evals g t c =
 
 pub tier-returns-then-tier-eq-TIERS-clause-evals : goal.tier-returns-then-tier-eq-TIERS-clause-evals
 tier-returns-then-tier-eq-TIERS-clause-evals g t c =
-    expressions.tightest_ends (g.H.Host.calls c.args.line) g.H.Host.hears c.args.levels c.args.text.now c.args.at c.args.tier c.args.live (seen g.H.Host.objects c.args.self.now) (seen g.H.Host.objects c.operand.new.self) c.operand.result c.if-tier-eq-TIERS.true (rw c.behind_blanks.ensures.place at c.operand.ensures.evals)
+    expressions.tightest_ends (g.H.Host.calls c.args.line) g.H.Host.hears c.args.levels c.args.text.now c.args.at c.args.tier c.args.live (seen g.H.Host.objects c.args.self.now) (seen g.H.Host.objects c.operand.new.self) c.operand.result c.if-tier-eq-TIERS.true (rw c.after_blanks.ensures.place at c.operand.ensures.evals)
 
 pub tier-returns-in_err-left-clause-evals : goal.tier-returns-in_err-left-clause-evals
 tier-returns-in_err-left-clause-evals g t c =
@@ -594,11 +594,11 @@ whole-returns-in_err-value-clause-evals g t c =
     let p = err_from_is_err_and c.from_residual.result c.from_residual.ensures.1 in
     rw (p.1, p.2) (expressions.tier_halts (g.H.Host.calls c.args.line) g.H.Host.hears c.args.levels c.args.text.now c.args.live (seen g.H.Host.objects c.args.self.now) (seen g.H.Host.objects c.tier.new.self) c.in_err-value.field-0.0 c.in_err-value.ensures.evals)
 
-pub whole-returns-then-behind_blanks-text-clause-evals : goal.whole-returns-then-behind_blanks-text-clause-evals
-whole-returns-then-behind_blanks-text-clause-evals g t c =
-    expressions.text_left (g.H.Host.calls c.args.line) g.H.Host.hears c.args.levels c.args.text.now c.args.live (seen g.H.Host.objects c.args.self.now) (seen g.H.Host.objects c.tier.new.self) (c.in_ok-value.value, c.in_ok-value.end) c.in_ok-value.ensures.evals (rw c.behind_blanks.ensures.place at c.if-behind_blanks-text.true)
+pub whole-returns-then-after_blanks-text-clause-evals : goal.whole-returns-then-after_blanks-text-clause-evals
+whole-returns-then-after_blanks-text-clause-evals g t c =
+    expressions.text_left (g.H.Host.calls c.args.line) g.H.Host.hears c.args.levels c.args.text.now c.args.live (seen g.H.Host.objects c.args.self.now) (seen g.H.Host.objects c.tier.new.self) (c.in_ok-value.value, c.in_ok-value.end) c.in_ok-value.ensures.evals (rw c.after_blanks.ensures.place at c.if-after_blanks-text.true)
 
 pub whole-returns-clause-evals : goal.whole-returns-clause-evals
 whole-returns-clause-evals g t c =
     let f : SFits w64 c.in_ok-value.value = search rules in
-    rw (to_z-of_z w64 c.in_ok-value.value f) (expressions.passed (g.H.Host.calls c.args.line) g.H.Host.hears c.args.levels c.args.text.now c.args.live (seen g.H.Host.objects c.args.self.now) (seen g.H.Host.objects c.tier.new.self) (c.in_ok-value.value, c.in_ok-value.end) c.in_ok-value.ensures.evals (rw c.behind_blanks.ensures.place at c.if-behind_blanks-text.false))
+    rw (to_z-of_z w64 c.in_ok-value.value f) (expressions.passed (g.H.Host.calls c.args.line) g.H.Host.hears c.args.levels c.args.text.now c.args.live (seen g.H.Host.objects c.args.self.now) (seen g.H.Host.objects c.tier.new.self) (c.in_ok-value.value, c.in_ok-value.end) c.in_ok-value.ensures.evals (rw c.after_blanks.ensures.place at c.if-after_blanks-text.false))

@@ -38,7 +38,7 @@ pub segment_use-used-requires-clause-slow : goal.segment_use-used-requires-claus
 segment_use-used-requires-clause-slow c =
     (own_limits c.args.wiring.now c.as_slice-segment-items.result.now c.loop-segment.segment-index c.segment-item.result c.as_slice-segment-items.ensures c.requires.limits c.loop-segment-test.true c.segment-item.is).slow
 
--- this segment's use, and that of those behind it
+-- this segment's use, and that of those after it
 step : (c : After-segment_use-used) → cut_use c.args.first.now (cables (drop c.loop-segment.segment-index c.as_slice-segment-items.result.now) c.loop-segment.rest.now)
     ≡ c.segment_use-used.result + cut_use c.args.first.now (cables (drop (c.loop-segment.segment-index + 1) c.as_slice-segment-items.result.now) c.split_at.result.1.now)
 step c =
